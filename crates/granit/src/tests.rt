@@ -10,7 +10,6 @@ use granit_events::{PlainSink, PlainSource};
 use std::alloc::Global;
 use std::env::FillError;
 use std::process::ExitCode;
-use std::test::Fail;
 
 /// Arguments that are told.
 #[derive(Drop)]
@@ -62,17 +61,37 @@ fn gives(alloc: Global, list: &[&[u8]], wanted: &[&str]) -> Result<bool, NoMemor
     Ok(words == texts(alloc, wanted)?)
 }
 
+/// The same; no for want of memory.
+fn is_given(alloc: Global, list: &[&[u8]], wanted: &[&str]) -> bool {
+    gives(alloc, list, wanted).unwrap_or(false)
+}
+
+/// Arguments, and the words that they give.
+const WORDS: &[(&[&[u8]], &[&str])] = &[
+    (&[], &[]),
+    (&[b"granit"], &[]),
+    (&[b"granit", b"events"], &["events"]),
+    (&[b"", b"a\xff", b"b"], &["", "b"]),
+];
+
+/// How many rows stand before the first one whose words are others.
+fn count_given(alloc: Global) -> usize {
+    let mut count: usize = 0;
+    for (list, wanted) in WORDS {
+        if !is_given(alloc, list, wanted) {
+            return count;
+        }
+        count = count.saturating_add(1);
+    }
+    count
+}
+
 #[test]
-fn words_stand_behind_the_name(rt: HostRuntime) -> Result<(), Fail> {
-    let alloc = rt.alloc();
+fn words_stand_behind_the_name(rt: HostRuntime) {
     let long = [b'x'; 600];
     let text = str::from_utf8(&long).unwrap_or("");
-    assert_eq!(rt; gives(alloc, &[], &[])?, true);
-    assert_eq!(rt; gives(alloc, &[b"granit"], &[])?, true);
-    assert_eq!(rt; gives(alloc, &[b"granit", b"events"], &["events"])?, true);
-    assert_eq!(rt; gives(alloc, &[b"", b"a\xff", b"b"], &["", "b"])?, true);
-    assert_eq!(rt; gives(alloc, &[b"", &long, b""], &[text, ""])?, true);
-    Ok(())
+    let is_long_given = is_given(rt.alloc(), &[b"", &long, b""], &[text, ""]);
+    assert_eq!(rt; (count_given(rt.alloc()), is_long_given), (4, true));
 }
 
 fn code(alloc: Global, list: &[&[u8]], bytes: &[u8]) -> Result<ExitCode, NoMemory> {
@@ -81,19 +100,37 @@ fn code(alloc: Global, list: &[&[u8]], bytes: &[u8]) -> Result<ExitCode, NoMemor
     Ok(run_on_arguments(alloc, &list_of(alloc, list)?, &mut source, &mut sink))
 }
 
+/// Whether a run ends so; no for want of memory.
+fn ends(alloc: Global, list: &[&[u8]], bytes: &[u8], wanted: u8) -> bool {
+    match code(alloc, list, bytes) {
+        Ok(code) => code == ExitCode::from(wanted),
+        Err(_) => false,
+    }
+}
+
+/// Arguments, what is read, and the exit code.
+const CODES: &[(&[&[u8]], &[u8], u8)] = &[
+    (&[b"granit", b"events"], b"--- \"a\"\n", 0),
+    (&[b"granit", b"events"], b"--- [\n", 1),
+    (&[b"granit"], b"", 2),
+    (&[b"granit", b"events"], b"\xff", 5),
+    (&[b"granit", b"selftest", b"0", b"1"], b"\xff", 0),
+    (&[b"granit", b"selftest", b"0"], b"", 2),
+];
+
+/// How many rows stand before the first one whose run ends otherwise.
+fn count_ends(alloc: Global) -> usize {
+    let mut count: usize = 0;
+    for (list, bytes, wanted) in CODES {
+        if !ends(alloc, list, bytes, *wanted) {
+            return count;
+        }
+        count = count.saturating_add(1);
+    }
+    count
+}
+
 #[test]
-fn the_exit_code_is_that_of_the_run(rt: HostRuntime) -> Result<(), Fail> {
-    let alloc = rt.alloc();
-    let right: [&[u8]; 2] = [b"granit", b"events"];
-    assert_eq!(rt;
-        code(alloc, &right, b"--- \"a\"\n")? == ExitCode::from(0),
-        true
-    );
-    assert_eq!(rt; code(alloc, &right, b"--- [\n")? == ExitCode::from(1), true);
-    assert_eq!(rt; code(alloc, &right[..1], b"")? == ExitCode::from(2), true);
-    assert_eq!(rt; code(alloc, &right, b"\xff")? == ExitCode::from(5), true);
-    let testing: [&[u8]; 4] = [b"granit", b"selftest", b"0", b"1"];
-    assert_eq!(rt; code(alloc, &testing, b"\xff")? == ExitCode::from(0), true);
-    assert_eq!(rt; code(alloc, &testing[..3], b"")? == ExitCode::from(2), true);
-    Ok(())
+fn the_exit_code_is_that_of_the_run(rt: HostRuntime) {
+    assert_eq!(rt; count_ends(rt.alloc()), 6);
 }

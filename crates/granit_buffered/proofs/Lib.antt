@@ -1,5 +1,6 @@
 pub mod BufferLemmas
 pub mod FallibleLemmas
 pub mod FeedLemmas
+pub mod HeldLemmas
 pub mod KnownLemmas
 pub mod SureLemmas

@@ -1,8 +1,7 @@
 //! Characters of which at most sixteen are read ahead.
 ghost use Rattle.std.specs.Prelude.{◌≡◌, ℕ, ◌+◌, ◌-◌, ◌<◌, ◌≤◌, ◌^◌, List, [], ◌∷◌, ◌++◌, length, Option, None, false};
-ghost use Rattle.std.specs.Prelude.{true, max, min, drop, IfOk, OnOk, OnErr, MatchOption, slice_index};
+ghost use Rattle.std.specs.Prelude.{true, max, min, drop, IfOk, OnOk, OnErr, MatchOption};
 ghost use Rattle.std.specs.Iterator.{size};
-ghost use Rattle.circular_buffer.specs.Buffer.{buffer};
 ghost use Rattle.granit_base.specs.Place.{Unread, first};
 ghost use Rattle.granit_error.specs.FaultKind.{FaultKind};
 ghost use Rattle.granit_input.specs.Origin.{Goes};
@@ -18,10 +17,10 @@ ghost use Rattle.granit_buffered.specs.declared.sure.Taker.TheVariants.{Sure};
 
 use crate::fallible::FallibleFeed;
 use crate::feed::Feed;
+use crate::held::Held;
 use crate::plain::PlainFeed;
 use crate::source::Source;
 use crate::sure::{Taker, found_with, surely_takes, takes, takes_before};
-use circular_buffer::HeapCircularBuffer;
 use granit_base::{NoMemory, is_breakz, push_char};
 use granit_error::ErrorKind;
 use granit_input::{BorrowedInput, Input, Run, SkipTabs, WhitespaceResult};
@@ -36,33 +35,13 @@ pub type FallibleBufferedInput<T> = ReadAhead<FallibleFeed<T>>;
 /// Characters that come from a feed. At most sixteen are read ahead.
 #[derive(Drop)]
 pub struct ReadAhead<F: Feed> {
-    held: HeapCircularBuffer<char>,
+    held: Held,
     feed: F,
     window: usize,
-    ghost capacity: { held.capacity ≡ 16 },
-    ghost few: { length held.items ≤ 16 },
+    ghost few: { length held ≤ 16 },
     ghost looked: { window ≤ 16 },
-    ghost ended: { length held.items < window → F.ended feed ≡ true },
-    ghost bounded: { length held.items + F.bound feed < 2 ^ 63 },
-}
-
-/// Holds one more character.
-#[inline(always)]
-fn hold(held: &mut HeapCircularBuffer<char>, c: char)
-    requires { length held.old.items < held.old.capacity }
-    ensures { held.new ≡ buffer (held.old.items ++ c ∷ []) held.old.capacity }
-{
-    // there is room, so it isn't handed back
-    let _ = held.try_push_back(c);
-}
-
-/// What is held behind `n` others; NUL where nothing is.
-#[inline(always)]
-fn held_at(held: &HeapCircularBuffer<char>, n: usize) -> char
-    ensures value { result ≡ slice_index held.now.items n }
-    ensures some { 0 < result → n < length held.now.items }
-{
-    held.get(n).copied().unwrap_or('\0')
+    ghost ended: { length held < window → F.ended feed ≡ true },
+    ghost bounded: { length held + F.bound feed < 2 ^ 63 },
 }
 
 impl<T: Source<Item = char>> ReadAhead<PlainFeed<T>> {
@@ -77,9 +56,9 @@ impl<T: Source<Item = char>> ReadAhead<PlainFeed<T>> {
             → ⟦<ReadAhead<PlainFeed<T>> as Input>⟧.unread s (record { text = xs; offset = None; lends = false })) }
         ensures ends { IfOk result (λ s. (xs : List ℕ) → GivesOnly T.next_gives T.remaining input xs
             → (⟦<ReadAhead<PlainFeed<T>> as Input>⟧.origin s).ends_with None) }
-        ensures few { IfOk result (λ s. (s.held.items ≡ []) × (s.feed.iterator ≡ input)) }
+        ensures few { IfOk result (λ s. (s.held ≡ []) × (s.feed.iterator ≡ input)) }
     {
-        let held = HeapCircularBuffer::with_capacity(alloc, 16)?;
+        let held = Held::new(alloc)?;
         Ok(ReadAhead {
             held,
             feed: PlainFeed::new(input),
@@ -108,9 +87,9 @@ impl<T: Source<Item = Result<char, ErrorKind>>> ReadAhead<FallibleFeed<T>> {
             → GivesOnly T.next_gives T.remaining input items
             → (⟦<ReadAhead<FallibleFeed<T>> as Input>⟧.origin s).ends_with (first_error items)) }
         ensures fresh { IfOk result (λ s. (⟦<ReadAhead<FallibleFeed<T>> as Input>⟧.origin s).handed_out ≡ false) }
-        ensures few { IfOk result (λ s. (s.held.items ≡ []) × (s.feed.iterator ≡ input)) }
+        ensures few { IfOk result (λ s. (s.held ≡ []) × (s.feed.iterator ≡ input)) }
     {
-        let held = HeapCircularBuffer::with_capacity(alloc, 16)?;
+        let held = Held::new(alloc)?;
         Ok(ReadAhead {
             held,
             feed: FallibleFeed::new(input),
@@ -125,20 +104,20 @@ impl<F: Feed> ReadAhead<F> {
     fn fill(&mut self, count: usize)
         requires { count ≤ 16 }
         ensures told { (xs : List ℕ) (fault : Option FaultKind)
-            → Holds F.told self.old.feed self.old.held.items xs fault
-            → Holds F.told self.new.feed self.new.held.items xs fault }
-        ensures left { length self.new.held.items + F.bound self.new.feed
-            ≤ length self.old.held.items + F.bound self.old.feed }
+            → Holds F.told self.old.feed self.old.held xs fault
+            → Holds F.told self.new.feed self.new.held xs fault }
+        ensures left { length self.new.held + F.bound self.new.feed
+            ≤ length self.old.held + F.bound self.old.feed }
         ensures window { self.new.window ≡ self.old.window }
-        ensures filled { length self.new.held.items < count → F.ended self.new.feed ≡ true }
-        ensures few { length self.new.held.items ≤ max count (length self.old.held.items) }
+        ensures filled { length self.new.held < count → F.ended self.new.feed ≡ true }
+        ensures few { length self.new.held ≤ max count (length self.old.held) }
         ensures stays { F.ended self.old.feed ≡ true → F.ended self.new.feed ≡ true }
         ensures goes { Goes (origin_of F.told F.ended F.error F.handed_out self.old.feed)
             (origin_of F.told F.ended F.error F.handed_out self.new.feed) }
     {
         'fill: while self.held.len() < count {
             match self.feed.next_char() {
-                Some(c) => hold(&mut self.held, c),
+                Some(c) => self.held.push_back(c),
                 None => return,
             }
         }
@@ -147,17 +126,17 @@ impl<F: Feed> ReadAhead<F> {
     /// Consumes the next character where a run takes it.
     #[inline(always)]
     fn take_one(&mut self, run: Run) -> Option<char>
-        ensures read { (u : Unread) → LeftInFeed F.told self.old.feed self.old.held.items u
-            → TakesOne run u result (λ v. LeftInFeed F.told self.new.feed self.new.held.items v) }
-        ensures moves { (MatchOption result (length self.new.held.items + F.bound self.new.feed
-            ≤ length self.old.held.items + F.bound self.old.feed)
-            (λ c. length self.new.held.items + F.bound self.new.feed
-            < length self.old.held.items + F.bound self.old.feed))
+        ensures read { (u : Unread) → LeftInFeed F.told self.old.feed self.old.held u
+            → TakesOne run u result (λ v. LeftInFeed F.told self.new.feed self.new.held v) }
+        ensures moves { (MatchOption result (length self.new.held + F.bound self.new.feed
+            ≤ length self.old.held + F.bound self.old.feed)
+            (λ c. length self.new.held + F.bound self.new.feed
+            < length self.old.held + F.bound self.old.feed))
             × (MatchOption result (self.old.window ≤ self.new.window) (λ c. self.old.window ≤ self.new.window + 1))
             × Goes (origin_of F.told F.ended F.error F.handed_out self.old.feed)
             (origin_of F.told F.ended F.error F.handed_out self.new.feed) }
-        ensures few { MatchOption result (length self.new.held.items ≤ max 2 (length self.old.held.items))
-            (λ c. length self.new.held.items ≤ max 2 (length self.old.held.items) - 1) }
+        ensures few { MatchOption result (length self.new.held ≤ max 2 (length self.old.held))
+            (λ c. length self.new.held ≤ max 2 (length self.old.held) - 1) }
     {
         match self.take_sure(Taker::Sure(run)) {
             Some(c) => Some(c),
@@ -168,18 +147,18 @@ impl<F: Feed> ReadAhead<F> {
     /// The same, with what follows it looked at where it doesn't say by itself that the run ends.
     #[inline(always)]
     fn take_asked(&mut self, run: Run) -> Option<char>
-        ensures read { (u : Unread) → LeftInFeed F.told self.old.feed self.old.held.items u
+        ensures read { (u : Unread) → LeftInFeed F.told self.old.feed self.old.held u
             → (TellsAlone (Sure run) (first u.text) → run_test run u.text ≡ false)
-            → TakesOne run u result (λ v. LeftInFeed F.told self.new.feed self.new.held.items v) }
-        ensures moves { (MatchOption result (length self.new.held.items + F.bound self.new.feed
-            ≤ length self.old.held.items + F.bound self.old.feed)
-            (λ c. length self.new.held.items + F.bound self.new.feed
-            < length self.old.held.items + F.bound self.old.feed))
+            → TakesOne run u result (λ v. LeftInFeed F.told self.new.feed self.new.held v) }
+        ensures moves { (MatchOption result (length self.new.held + F.bound self.new.feed
+            ≤ length self.old.held + F.bound self.old.feed)
+            (λ c. length self.new.held + F.bound self.new.feed
+            < length self.old.held + F.bound self.old.feed))
             × (MatchOption result (self.old.window ≤ self.new.window) (λ c. self.old.window ≤ self.new.window + 1))
             × Goes (origin_of F.told F.ended F.error F.handed_out self.old.feed)
             (origin_of F.told F.ended F.error F.handed_out self.new.feed) }
-        ensures few { MatchOption result (length self.new.held.items ≤ max 2 (length self.old.held.items))
-            (λ c. length self.new.held.items ≤ max 2 (length self.old.held.items) - 1) }
+        ensures few { MatchOption result (length self.new.held ≤ max 2 (length self.old.held))
+            (λ c. length self.new.held ≤ max 2 (length self.old.held) - 1) }
     {
         self.lookahead(1);
         let c = self.peek();
@@ -196,17 +175,17 @@ impl<F: Feed> ReadAhead<F> {
     /// Consumes the next character where it is taken whatever follows; else it stays, and is held.
     #[inline(always)]
     fn take_sure(&mut self, taker: Taker) -> Option<char>
-        ensures read { (u : Unread) → LeftInFeed F.told self.old.feed self.old.held.items u
-            → TakesSure taker u result (λ v. LeftInFeed F.told self.new.feed self.new.held.items v) }
-        ensures moves { (MatchOption result (length self.new.held.items + F.bound self.new.feed
-            ≤ length self.old.held.items + F.bound self.old.feed)
-            (λ c. length self.new.held.items + F.bound self.new.feed
-            < length self.old.held.items + F.bound self.old.feed))
+        ensures read { (u : Unread) → LeftInFeed F.told self.old.feed self.old.held u
+            → TakesSure taker u result (λ v. LeftInFeed F.told self.new.feed self.new.held v) }
+        ensures moves { (MatchOption result (length self.new.held + F.bound self.new.feed
+            ≤ length self.old.held + F.bound self.old.feed)
+            (λ c. length self.new.held + F.bound self.new.feed
+            < length self.old.held + F.bound self.old.feed))
             × (MatchOption result (self.old.window ≤ self.new.window) (λ c. self.old.window ≤ self.new.window + 1))
             × Goes (origin_of F.told F.ended F.error F.handed_out self.old.feed)
             (origin_of F.told F.ended F.error F.handed_out self.new.feed) }
-        ensures few { MatchOption result (length self.new.held.items ≤ max 1 (length self.old.held.items))
-            (λ c. length self.new.held.items ≤ length self.old.held.items - 1) }
+        ensures few { MatchOption result (length self.new.held ≤ max 1 (length self.old.held))
+            (λ c. length self.new.held ≤ length self.old.held - 1) }
     {
         if self.held.is_empty() {
             self.take_fed(taker)
@@ -218,25 +197,25 @@ impl<F: Feed> ReadAhead<F> {
     /// The same where none is held: straight from the feed.
     #[inline(always)]
     fn take_fed(&mut self, taker: Taker) -> Option<char>
-        requires { self.old.held.items ≡ [] }
-        ensures read { (u : Unread) → LeftInFeed F.told self.old.feed self.old.held.items u
-            → TakesSure taker u result (λ v. LeftInFeed F.told self.new.feed self.new.held.items v) }
-        ensures moves { (MatchOption result (length self.new.held.items + F.bound self.new.feed
-            ≤ length self.old.held.items + F.bound self.old.feed)
-            (λ c. length self.new.held.items + F.bound self.new.feed
-            < length self.old.held.items + F.bound self.old.feed))
+        requires { self.old.held ≡ [] }
+        ensures read { (u : Unread) → LeftInFeed F.told self.old.feed self.old.held u
+            → TakesSure taker u result (λ v. LeftInFeed F.told self.new.feed self.new.held v) }
+        ensures moves { (MatchOption result (length self.new.held + F.bound self.new.feed
+            ≤ length self.old.held + F.bound self.old.feed)
+            (λ c. length self.new.held + F.bound self.new.feed
+            < length self.old.held + F.bound self.old.feed))
             × (MatchOption result (self.old.window ≤ self.new.window) (λ c. self.old.window ≤ self.new.window + 1))
             × Goes (origin_of F.told F.ended F.error F.handed_out self.old.feed)
             (origin_of F.told F.ended F.error F.handed_out self.new.feed) }
-        ensures few { MatchOption result (length self.new.held.items ≤ max 1 (length self.old.held.items))
-            (λ c. length self.new.held.items ≤ length self.old.held.items - 1) }
+        ensures few { MatchOption result (length self.new.held ≤ max 1 (length self.old.held))
+            (λ c. length self.new.held ≤ length self.old.held - 1) }
     {
         match self.feed.next_char() {
             Some(c) => {
                 if takes(taker, c) {
                     return Some(c);
                 }
-                hold(&mut self.held, c);
+                self.held.push_back(c);
                 self.window = self.window.max(1);
                 None
             }
@@ -247,20 +226,20 @@ impl<F: Feed> ReadAhead<F> {
     /// The same where one is held.
     #[inline(always)]
     fn take_held(&mut self, taker: Taker) -> Option<char>
-        requires { 0 < length self.old.held.items }
-        ensures read { (u : Unread) → LeftInFeed F.told self.old.feed self.old.held.items u
-            → TakesSure taker u result (λ v. LeftInFeed F.told self.new.feed self.new.held.items v) }
-        ensures moves { (MatchOption result (length self.new.held.items + F.bound self.new.feed
-            ≤ length self.old.held.items + F.bound self.old.feed)
-            (λ c. length self.new.held.items + F.bound self.new.feed
-            < length self.old.held.items + F.bound self.old.feed))
+        requires { 0 < length self.old.held }
+        ensures read { (u : Unread) → LeftInFeed F.told self.old.feed self.old.held u
+            → TakesSure taker u result (λ v. LeftInFeed F.told self.new.feed self.new.held v) }
+        ensures moves { (MatchOption result (length self.new.held + F.bound self.new.feed
+            ≤ length self.old.held + F.bound self.old.feed)
+            (λ c. length self.new.held + F.bound self.new.feed
+            < length self.old.held + F.bound self.old.feed))
             × (MatchOption result (self.old.window ≤ self.new.window) (λ c. self.old.window ≤ self.new.window + 1))
             × Goes (origin_of F.told F.ended F.error F.handed_out self.old.feed)
             (origin_of F.told F.ended F.error F.handed_out self.new.feed) }
-        ensures few { MatchOption result (length self.new.held.items ≤ max 1 (length self.old.held.items))
-            (λ c. length self.new.held.items ≤ length self.old.held.items - 1) }
+        ensures few { MatchOption result (length self.new.held ≤ max 1 (length self.old.held))
+            (λ c. length self.new.held ≤ length self.old.held - 1) }
     {
-        let c = held_at(&self.held, 0);
+        let c = self.held.peek(0);
         if takes(taker, c) {
             self.skip();
             Some(c)
@@ -272,12 +251,12 @@ impl<F: Feed> ReadAhead<F> {
     /// Appends a character that was consumed. Where memory is wanting it is held again, in front of the others.
     #[inline(always)]
     fn append(&mut self, out: &mut String, c: char) -> Result<(), NoMemory>
-        requires few { length self.old.held.items < 16 }
-        requires bounded { length self.old.held.items + F.bound self.old.feed + 1 < 2 ^ 63 }
+        requires few { length self.old.held < 16 }
+        requires bounded { length self.old.held + F.bound self.old.feed + 1 < 2 ^ 63 }
         ensures appended { OnOk result ((string_chars out.new ≡ string_chars out.old ++ c ∷ [])
-            × (self.new.held.items ≡ self.old.held.items)) }
+            × (self.new.held ≡ self.old.held)) }
         ensures kept { OnErr result ((string_chars out.new ≡ string_chars out.old)
-            × (self.new.held.items ≡ c ∷ self.old.held.items)) }
+            × (self.new.held ≡ c ∷ self.old.held)) }
         ensures same { (self.new.feed ≡ self.old.feed) × (self.new.window ≡ self.old.window) }
     {
         if let Err(error) = push_char(out, c) {
@@ -296,9 +275,9 @@ impl<F: Feed> Input for ReadAhead<F> {
     ghost use Rattle.granit_buffered.specs.BufferLaws.{buffer_agrees};
     ghost use Rattle.std.proofs.Common.{zero-le};
 
-    ghost unread = { λ s u. LeftInFeed F.told s.feed s.held.items u };
+    ghost unread = { λ s u. LeftInFeed F.told s.feed s.held u };
 
-    ghost left = { λ s. length s.held.items + F.bound s.feed };
+    ghost left = { λ s. length s.held + F.bound s.feed };
 
     ghost window = { λ s. s.window };
 
@@ -311,19 +290,19 @@ impl<F: Feed> Input for ReadAhead<F> {
     ghost fails = { λ s fault known ends. F.fails s.feed ends.0 fault known ends.1 };
 
     ghost agrees = { λ s u k. buffer_agrees F.told F.bound F.ended F.error F.handed_out F.bounded F.over s.feed
-        s.held.items u k };
+        s.held u k };
 
     #[inline(always)]
     fn lookahead(&mut self, count: usize)
-        ensures unread { (u : Unread) → LeftInFeed F.told self.old.feed self.old.held.items u
-            → LeftInFeed F.told self.new.feed self.new.held.items u }
-        ensures moves { (length self.new.held.items + F.bound self.new.feed
-            ≤ length self.old.held.items + F.bound self.old.feed)
+        ensures unread { (u : Unread) → LeftInFeed F.told self.old.feed self.old.held u
+            → LeftInFeed F.told self.new.feed self.new.held u }
+        ensures moves { (length self.new.held + F.bound self.new.feed
+            ≤ length self.old.held + F.bound self.old.feed)
             × (max (min count 8) self.old.window ≤ self.new.window)
             × Goes (origin_of F.told F.ended F.error F.handed_out self.old.feed)
             (origin_of F.told F.ended F.error F.handed_out self.new.feed) }
         ensures window { self.new.window ≡ max self.old.window (min count 16) }
-        ensures few { length self.new.held.items ≤ max (min count 16) (length self.old.held.items) }
+        ensures few { length self.new.held ≤ max (min count 16) (length self.old.held) }
     {
         let count = count.min(16);
         if self.window < count {
@@ -344,14 +323,14 @@ impl<F: Feed> Input for ReadAhead<F> {
     }
 
     fn raw_read_ch(&mut self) -> char
-        ensures read { (u : Unread) → LeftInFeed F.told self.old.feed self.old.held.items u
-            → LeftInFeed F.told self.new.feed self.new.held.items (past_count 1 u) × (result ≡ first u.text) }
-        ensures moves { (length self.new.held.items + F.bound self.new.feed
-            ≤ length self.old.held.items + F.bound self.old.feed - 1)
-            × (self.old.window ≤ self.new.window + min 1 (length self.old.held.items + F.bound self.old.feed))
+        ensures read { (u : Unread) → LeftInFeed F.told self.old.feed self.old.held u
+            → LeftInFeed F.told self.new.feed self.new.held (past_count 1 u) × (result ≡ first u.text) }
+        ensures moves { (length self.new.held + F.bound self.new.feed
+            ≤ length self.old.held + F.bound self.old.feed - 1)
+            × (self.old.window ≤ self.new.window + min 1 (length self.old.held + F.bound self.old.feed))
             × Goes (origin_of F.told F.ended F.error F.handed_out self.old.feed)
             (origin_of F.told F.ended F.error F.handed_out self.new.feed) }
-        ensures few { length self.new.held.items ≤ length self.old.held.items - 1 }
+        ensures few { length self.new.held ≤ length self.old.held - 1 }
     {
         self.lookahead(1);
         let c = self.peek();
@@ -360,17 +339,17 @@ impl<F: Feed> Input for ReadAhead<F> {
     }
 
     fn raw_read_non_breakz_ch(&mut self) -> Option<char>
-        ensures read { (u : Unread) → LeftInFeed F.told self.old.feed self.old.held.items u
-            → ReadsNonBreakz u result (λ v. LeftInFeed F.told self.new.feed self.new.held.items v) }
-        ensures moves { (MatchOption result (length self.new.held.items + F.bound self.new.feed
-            ≤ length self.old.held.items + F.bound self.old.feed)
-            (λ c. length self.new.held.items + F.bound self.new.feed
-            < length self.old.held.items + F.bound self.old.feed))
+        ensures read { (u : Unread) → LeftInFeed F.told self.old.feed self.old.held u
+            → ReadsNonBreakz u result (λ v. LeftInFeed F.told self.new.feed self.new.held v) }
+        ensures moves { (MatchOption result (length self.new.held + F.bound self.new.feed
+            ≤ length self.old.held + F.bound self.old.feed)
+            (λ c. length self.new.held + F.bound self.new.feed
+            < length self.old.held + F.bound self.old.feed))
             × (MatchOption result (self.old.window ≤ self.new.window) (λ c. self.old.window ≤ self.new.window + 1))
             × Goes (origin_of F.told F.ended F.error F.handed_out self.old.feed)
             (origin_of F.told F.ended F.error F.handed_out self.new.feed) }
-        ensures few { MatchOption result (length self.new.held.items ≤ max 1 (length self.old.held.items))
-            (λ c. length self.new.held.items ≤ length self.old.held.items - 1) }
+        ensures few { MatchOption result (length self.new.held ≤ max 1 (length self.old.held))
+            (λ c. length self.new.held ≤ length self.old.held - 1) }
     {
         self.lookahead(1);
         let c = self.peek();
@@ -383,14 +362,14 @@ impl<F: Feed> Input for ReadAhead<F> {
 
     #[inline(always)]
     fn skip(&mut self)
-        ensures unread { (u : Unread) → LeftInFeed F.told self.old.feed self.old.held.items u
-            → LeftInFeed F.told self.new.feed self.new.held.items (past_count 1 u) }
-        ensures moves { (length self.new.held.items + F.bound self.new.feed
-            ≤ length self.old.held.items + F.bound self.old.feed - 1)
-            × (self.old.window ≤ self.new.window + min 1 (length self.old.held.items + F.bound self.old.feed))
+        ensures unread { (u : Unread) → LeftInFeed F.told self.old.feed self.old.held u
+            → LeftInFeed F.told self.new.feed self.new.held (past_count 1 u) }
+        ensures moves { (length self.new.held + F.bound self.new.feed
+            ≤ length self.old.held + F.bound self.old.feed - 1)
+            × (self.old.window ≤ self.new.window + min 1 (length self.old.held + F.bound self.old.feed))
             × Goes (origin_of F.told F.ended F.error F.handed_out self.old.feed)
             (origin_of F.told F.ended F.error F.handed_out self.new.feed) }
-        ensures few { length self.new.held.items ≤ length self.old.held.items - 1 }
+        ensures few { length self.new.held ≤ length self.old.held - 1 }
     {
         if self.held.is_empty() {
             self.feed.next_char();
@@ -401,14 +380,14 @@ impl<F: Feed> Input for ReadAhead<F> {
     }
 
     fn skip_n(&mut self, count: usize)
-        ensures unread { (u : Unread) → LeftInFeed F.told self.old.feed self.old.held.items u
-            → LeftInFeed F.told self.new.feed self.new.held.items (past_count count u) }
-        ensures moves { (length self.new.held.items + F.bound self.new.feed
-            ≤ length self.old.held.items + F.bound self.old.feed - count)
-            × (self.old.window ≤ self.new.window + min count (length self.old.held.items + F.bound self.old.feed))
+        ensures unread { (u : Unread) → LeftInFeed F.told self.old.feed self.old.held u
+            → LeftInFeed F.told self.new.feed self.new.held (past_count count u) }
+        ensures moves { (length self.new.held + F.bound self.new.feed
+            ≤ length self.old.held + F.bound self.old.feed - count)
+            × (self.old.window ≤ self.new.window + min count (length self.old.held + F.bound self.old.feed))
             × Goes (origin_of F.told F.ended F.error F.handed_out self.old.feed)
             (origin_of F.told F.ended F.error F.handed_out self.new.feed) }
-        ensures few { length self.new.held.items ≤ length self.old.held.items - count }
+        ensures few { length self.new.held ≤ length self.old.held - count }
     {
         let mut taken = 0;
         'taken: while taken < count {
@@ -419,15 +398,15 @@ impl<F: Feed> Input for ReadAhead<F> {
 
     #[inline(always)]
     fn next_in(&mut self, run: Run) -> bool
-        ensures look { (u : Unread) → LeftInFeed F.told self.old.feed self.old.held.items u
-            → LeftInFeed F.told self.new.feed self.new.held.items u × (result ≡ run_test run u.text) }
-        ensures some { result ≡ true → 0 < length self.new.held.items + F.bound self.new.feed }
-        ensures moves { (length self.new.held.items + F.bound self.new.feed
-            ≤ length self.old.held.items + F.bound self.old.feed)
+        ensures look { (u : Unread) → LeftInFeed F.told self.old.feed self.old.held u
+            → LeftInFeed F.told self.new.feed self.new.held u × (result ≡ run_test run u.text) }
+        ensures some { result ≡ true → 0 < length self.new.held + F.bound self.new.feed }
+        ensures moves { (length self.new.held + F.bound self.new.feed
+            ≤ length self.old.held + F.bound self.old.feed)
             × (max 1 self.old.window ≤ self.new.window)
             × Goes (origin_of F.told F.ended F.error F.handed_out self.old.feed)
             (origin_of F.told F.ended F.error F.handed_out self.new.feed) }
-        ensures few { length self.new.held.items ≤ max 2 (length self.old.held.items) }
+        ensures few { length self.new.held ≤ max 2 (length self.old.held) }
     {
         self.lookahead(1);
         let c = self.peek();
@@ -439,16 +418,16 @@ impl<F: Feed> Input for ReadAhead<F> {
     }
 
     fn skip_run(&mut self, run: Run, limit: usize) -> (bool, usize)
-        ensures skips { (u : Unread) → LeftInFeed F.told self.old.feed self.old.held.items u
-            → SkipsFront (run_test run) u limit result (λ v. LeftInFeed F.told self.new.feed self.new.held.items v) }
+        ensures skips { (u : Unread) → LeftInFeed F.told self.old.feed self.old.held u
+            → SkipsFront (run_test run) u limit result (λ v. LeftInFeed F.told self.new.feed self.new.held v) }
         ensures few { result.0 ≡ false → limit ≤ result.1 }
         ensures limit { result.1 ≤ limit }
-        ensures moves { (length self.new.held.items + F.bound self.new.feed + result.1
-            ≤ length self.old.held.items + F.bound self.old.feed)
+        ensures moves { (length self.new.held + F.bound self.new.feed + result.1
+            ≤ length self.old.held + F.bound self.old.feed)
             × (self.old.window ≤ self.new.window + result.1)
             × Goes (origin_of F.told F.ended F.error F.handed_out self.old.feed)
             (origin_of F.told F.ended F.error F.handed_out self.new.feed) }
-        ensures ahead { length self.new.held.items ≤ max 2 (length self.old.held.items) }
+        ensures ahead { length self.new.held ≤ max 2 (length self.old.held) }
     {
         let mut count = 0;
         'run: while count < limit {
@@ -466,18 +445,18 @@ impl<F: Feed> Input for ReadAhead<F> {
         run: Run,
         limit: usize,
     ) -> Result<(bool, usize), NoMemory>
-        ensures fetches { (u : Unread) → LeftInFeed F.told self.old.feed self.old.held.items u
-            → FetchesFront (run_test run) u limit result (λ v. LeftInFeed F.told self.new.feed self.new.held.items v)
+        ensures fetches { (u : Unread) → LeftInFeed F.told self.old.feed self.old.held u
+            → FetchesFront (run_test run) u limit result (λ v. LeftInFeed F.told self.new.feed self.new.held v)
             (string_chars out.old) (string_chars out.new) }
         ensures kept { Extends (string_chars out.old) (string_chars out.new) }
         ensures few { IfOk result (λ r. r.0 ≡ false → limit ≤ r.1) }
         ensures limit { IfOk result (λ r. r.1 ≤ limit) }
-        ensures moves { (length self.new.held.items + F.bound self.new.feed + front_count_of result
-            ≤ length self.old.held.items + F.bound self.old.feed)
+        ensures moves { (length self.new.held + F.bound self.new.feed + front_count_of result
+            ≤ length self.old.held + F.bound self.old.feed)
             × (IfOk result (λ r. self.old.window ≤ self.new.window + r.1))
             × Goes (origin_of F.told F.ended F.error F.handed_out self.old.feed)
             (origin_of F.told F.ended F.error F.handed_out self.new.feed) }
-        ensures ahead { length self.new.held.items ≤ max 2 (length self.old.held.items) }
+        ensures ahead { length self.new.held ≤ max 2 (length self.old.held) }
     {
         let mut count = 0;
         'run: while count < limit {
@@ -491,14 +470,14 @@ impl<F: Feed> Input for ReadAhead<F> {
     }
 
     fn skip_ws_to_eol_blanks(&mut self, skip_tabs: SkipTabs) -> (usize, WhitespaceResult)
-        ensures skips { (u : Unread) → LeftInFeed F.told self.old.feed self.old.held.items u
-            → SkipsBlanks skip_tabs u result (λ v. LeftInFeed F.told self.new.feed self.new.held.items v) }
-        ensures moves { (length self.new.held.items + F.bound self.new.feed + result.0
-            ≤ length self.old.held.items + F.bound self.old.feed)
+        ensures skips { (u : Unread) → LeftInFeed F.told self.old.feed self.old.held u
+            → SkipsBlanks skip_tabs u result (λ v. LeftInFeed F.told self.new.feed self.new.held v) }
+        ensures moves { (length self.new.held + F.bound self.new.feed + result.0
+            ≤ length self.old.held + F.bound self.old.feed)
             × (self.old.window ≤ self.new.window + result.0)
             × Goes (origin_of F.told F.ended F.error F.handed_out self.old.feed)
             (origin_of F.told F.ended F.error F.handed_out self.new.feed) }
-        ensures ahead { length self.new.held.items ≤ max 1 (length self.old.held.items) }
+        ensures ahead { length self.new.held ≤ max 1 (length self.old.held) }
     {
         let mut found = WhitespaceResult::new(false, false);
         let mut count = 0;
@@ -518,7 +497,7 @@ impl<F: Feed> Input for ReadAhead<F> {
 
     #[inline(always)]
     fn peek_nth(&self, n: usize) -> char {
-        held_at(&self.held, n)
+        self.held.peek(n)
     }
 
     #[inline(always)]

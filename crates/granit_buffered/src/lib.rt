@@ -4,6 +4,7 @@
 mod buffered;
 mod fallible;
 mod feed;
+mod held;
 mod laws;
 mod plain;
 mod source;

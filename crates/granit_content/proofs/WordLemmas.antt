@@ -1,12 +1,13 @@
 -- A plain scalar that was passed at once is what its reader gives.
 use Rattle.std.proofs.Common.{◌≡◌, ℕ, ◌==◌, ◌||◌, Bool, true, false, List, drop, Option, Some, None, Result, Ok, sym}
-use Rattle.std.proofs.Common.{ap, ap₂, ◌∙◌}
+use Rattle.std.proofs.Common.{ap, ap₂, ◌∙◌, subst}
 use Rattle.std.proofs.lemmas.Bool.{and_parts}
 use Rattle.granit_base.specs.Classes.{is_flow, is_within}
 use Rattle.granit_base.specs.Place.{Mark, first}
 use Rattle.granit_base.specs.Written.{lent}
-use Rattle.granit_cursor.specs.Plain.{EndsBy, PlainPassed}
+use Rattle.granit_cursor.specs.Plain.{EndsWordsAt, PlainPassed}
 use Rattle.granit_input.specs.White.{blanks_length}
+use Rattle.granit_input.specs.Words.{EndsBelow}
 use Rattle.granit_input.specs.declared.whitespace.SkipTabs.TheVariants.{No}
 use Rattle.granit_lexemes.specs.Here.{Here, mark_of, next_char, step}
 use Rattle.granit_lexemes.specs.LayoutData.{LayoutData}
@@ -49,7 +50,8 @@ module _ (at : LayoutData) (h : Here) (text : List ℕ) (behind : Mark) (Lands :
   same on_new_line after =
       ap₂ (λ (t : List ℕ) (m : Mark). Ok (passed_read h t m on_new_line, after)) (sym p.is) (sym p.mark)
 
-  by : (spaces : Option ℕ) → EndsBy at.in_flow at.block_column there spaces Lands → ReadAtOnce at h text behind Lands
+  by : (spaces : Option ℕ) → EndsWordsAt at.in_flow at.block_column there spaces Lands
+      → ReadAtOnce at h text behind Lands
   by None e = record {
     on_new_line = false;
     after = there;
@@ -58,17 +60,18 @@ module _ (at : LayoutData) (h : Here) (text : List ℕ) (behind : Mark) (Lands :
         (and_parts (next_char there == 0x3A || is_flow (next_char there)) _ e.0).0 ∙ same false there;
   }
   by (Some spaces) e =
-      let line = e.1.2 in
+      let line = e.0 in
       let next = step_text there in
       let far : (steps spaces (step there)).unread.text ≡ drop spaces (drop 1 there.unread.text) =
       steps_text spaces (step there) ∙ ap (drop spaces) next in
       record {
         on_new_line = true;
         after = steps spaces (step there);
-        lands = e.2;
-        is = words_and_line at h p.count p.words.some p.whole p.lends dash p.words.printable line.feed e.1.0 spaces
-            e.1.1 e.0 (line.blanks ∙ ap (blanks_length No) (sym next)) line.left
+        lands = e.1;
+        is = words_and_line at h p.count p.words.some p.whole p.lends dash p.words.printable line.feed spaces
+            (line.blanks ∙ ap (blanks_length No) (sym next))
             (ap (λ (t : List ℕ). is_within 0x21 0x7E (first t)) far ∙ line.visible)
+            (subst (λ (t : List ℕ). EndsBelow at.in_flow at.block_column spaces (first t)) (sym far) line.ends)
             ∙ same true (steps spaces (step there));
       }
 

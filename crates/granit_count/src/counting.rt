@@ -8,10 +8,7 @@ use granit_scan::Scanner;
 fn is_given<T: Drop, E: Drop>(given: Option<Result<T, E>>) -> Result<bool, E> {
     match given {
         None => Ok(false),
-        Some(Ok(item)) => {
-            drop(item);
-            Ok(true)
-        }
+        Some(Ok(_)) => Ok(true),
         Some(Err(error)) => Err(error),
     }
 }

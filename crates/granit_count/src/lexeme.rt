@@ -2,7 +2,7 @@
 use granit_base::is_blank_or_breakz;
 use granit_cursor::{Cursor, Layout, scan_comment};
 use granit_error::ScanError;
-use granit_input::{Input, StrInput};
+use granit_input::{BorrowedInput, Input, StrInput};
 use granit_lex::{scan_plain_scalar, scan_quoted_scalar};
 use std::alloc::Global;
 
@@ -29,7 +29,10 @@ fn passed<T: Drop, E: Drop>(read: Result<T, E>) -> Result<(), E> {
 }
 
 /// Past the plain scalar that begins here, where one does.
-fn pass_plain<'a>(alloc: Global, cursor: &mut Cursor<StrInput<'a>>) -> Result<(), ScanError> {
+fn pass_plain<'a, T: BorrowedInput<'a>>(
+    alloc: Global,
+    cursor: &mut Cursor<T>,
+) -> Result<(), ScanError> {
     let at = outermost();
     cursor.look(2);
     let is_plain = !is_blank_or_breakz(cursor.input().peek())
@@ -42,7 +45,10 @@ fn pass_plain<'a>(alloc: Global, cursor: &mut Cursor<StrInput<'a>>) -> Result<()
 }
 
 /// Past the comment, the quoted or the plain scalar that begins here, where one does.
-fn pass_lexeme<'a>(alloc: Global, cursor: &mut Cursor<StrInput<'a>>) -> Result<(), ScanError> {
+fn pass_lexeme<'a, T: BorrowedInput<'a>>(
+    alloc: Global,
+    cursor: &mut Cursor<T>,
+) -> Result<(), ScanError> {
     cursor.look(2);
     match cursor.input().peek() {
         '#' => passed(scan_comment(alloc, cursor)),

@@ -3,7 +3,7 @@ use Rattle.std.proofs.Common.{◌≡◌, ℕ, zero, suc, ◌+◌, ◌<◌, ◌�
 use Rattle.std.proofs.Common.{drop, None, inl, inr, refl, sym, ap, subst, ◌∙◌, arith}
 use Rattle.std.proofs.lemmas.Bool.{cases_Bool, eqb-true}
 use Rattle.granit_base.specs.Place.{Place, Unread, first, ends_line}
-use Rattle.granit_input.specs.Lines.{IsLines, is_line_gap, line_feeds, column_behind}
+use Rattle.granit_input.specs.Lines.{IsLines, is_line_gap, feed_count, column_behind}
 use Rattle.granit_input.specs.Runs.{run_length, starts}
 use Rattle.granit_input.specs.Unread.{past_count}
 use Rattle.granit_input.proofs.UnreadLemmas.{past_none, past_one, past_twice}
@@ -20,7 +20,7 @@ use Rattle.granit_cursor.proofs.OnwardLemmas.{goes_by, steps_onward}
 abbrev lines_place : ℕ → List ℕ → Place → Place
 lines_place n text p = record {
   index = p.index + n;
-  line = p.line + line_feeds text;
+  line = p.line + feed_count text;
   column = column_behind p.column text;
 }
 
@@ -87,20 +87,20 @@ behind_first n h now one more =
 feed_place : (n : ℕ) (text : List ℕ) (p : Place)
     → lines_place n text (record { index = p.index + 1; line = p.line + 1; column = 0 })
     ≡ lines_place (suc n) (0x0A ∷ text) p
-unfolding line_feeds column_behind
+unfolding feed_count column_behind
 feed_place n text p =
     let i : p.index + 1 + n ≡ p.index + suc n = omega arith in
-    let l : p.line + 1 + line_feeds text ≡ p.line + suc (line_feeds text) = omega arith in
+    let l : p.line + 1 + feed_count text ≡ p.line + suc (feed_count text) = omega arith in
     rw (i, l) refl
 
 space_place : (n : ℕ) (text : List ℕ) (p : Place) → lines_place n text (moved 1 p) ≡ lines_place (suc n) (0x20 ∷ text) p
-unfolding line_feeds column_behind
+unfolding feed_count column_behind
 space_place n text p =
     let i : p.index + 1 + n ≡ p.index + suc n = omega arith in
     let k : p.column + 1 ≡ suc p.column = omega arith in
     rw i (ap (λ (column : ℕ). record {
       index = p.index + suc n;
-      line = p.line + line_feeds text;
+      line = p.line + feed_count text;
       column = column_behind column text;
     }) k)
 
@@ -127,7 +127,7 @@ over_space n h now some is one rest = record {
 }
 
 none_over : (h : Here) → h.begins_line ≡ true → h.tab ≡ None → Over 0 h h
-unfolding line_feeds column_behind
+unfolding feed_count column_behind
 none_over h begins tab =
     let i : h.place.index + 0 ≡ h.place.index = omega arith in
     let l : h.place.line + 0 ≡ h.place.line = omega arith in
@@ -190,7 +190,7 @@ lands_lines unread n lines spaces old new h is k known place begins tab =
     let text = take n h.unread.text in
     let over = feeds_on n h is.begins is.whole in
     let some : 0 < n = omega (arith, is.whole, feed_run h.unread.text is.begins) in
-    let l : line_feeds text ≡ lines = sym is.feeds in
+    let l : feed_count text ≡ lines = sym is.feeds in
     let c : column_behind old.place.column text ≡ spaces =
     feed_column old.place.column n h.unread.text is.begins some ∙ sym is.column in
     let there : lines_place n text old.place

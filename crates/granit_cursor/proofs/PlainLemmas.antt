@@ -7,7 +7,7 @@ use Rattle.std.proofs.lemmas.Bool.Decides.{nat_tests}
 use Rattle.granit_base.specs.Place.{Mark, Place, Unread, ends_line, first}
 use Rattle.granit_input.specs.Runs.{is_plain_word, run_length, starts}
 use Rattle.granit_input.specs.Unread.{past_count, utf8_length}
-use Rattle.granit_input.specs.Words.{EndsLine, EndsWords, LendsWords}
+use Rattle.granit_input.specs.Words.{EndsLine, LendsWords}
 use Rattle.granit_input.specs.declared.class.Run.TheVariants.{PlainWords}
 use Rattle.granit_input.proofs.RunLemmas.{run_nul}
 use Rattle.granit_input.proofs.UnreadLemmas.{past_offset, past_one, past_text, past_twice}
@@ -15,7 +15,7 @@ use Rattle.granit_lexemes.specs.Here.{Here, begins_behind, mark_of, next_char, s
 use Rattle.granit_lexemes.specs.Moves.{steps}
 use Rattle.granit_lexemes.specs.Onward.{Onward, stepped}
 use Rattle.granit_lexemes.proofs.HereLemmas.{step_text}
-use Rattle.granit_cursor.specs.Plain.{EndsBy}
+use Rattle.granit_cursor.specs.Plain.{EndsWordsAt}
 use Rattle.granit_cursor.proofs.MoveLemmas.{Along, Spot, StandsAt, is_space, moved, run_along, space_line, spaces_stay}
 use Rattle.granit_cursor.proofs.OnwardLemmas.{steps_onward}
 use Rattle.granit_cursor.proofs.WordLemmas.{joined_line, lands_joined, plain_joins}
@@ -49,11 +49,11 @@ over_feed h is =
 
 -- behind it and the spaces that follow
 pub feed_lands :
-    {I : Type 0} (unread : I → Unread → Type 0) (new : Spot I) (h : Here) (column spaces : ℕ)
-    → EndsLine column spaces h.unread.text → unread new.input (past_count (1 + spaces) h.unread)
+    {I : Type 0} (unread : I → Unread → Type 0) (new : Spot I) (h : Here) (in_flow : Bool) (column : Option ℕ)
+    (spaces : ℕ) → EndsLine in_flow column spaces h.unread.text → unread new.input (past_count (1 + spaces) h.unread)
     → new.place ≡ record { index = h.place.index + (1 + spaces); line = h.place.line + 1; column = spaces }
     → new.begins_line ≡ true → new.tab ≡ None → StandsAt unread new (steps spaces (step h))
-feed_lands unread new h column spaces line known place begins tab =
+feed_lands unread new h in_flow column spaces line known place begins tab =
     let b = over_feed h line.feed in
     let fits : spaces ≤ run_length (starts is_space) (step h).unread.text =
     omega (arith, line.blanks, ap (run_length (starts is_space)) (step_text h)) in
@@ -118,15 +118,15 @@ words_text in_flow h start end w =
 
 -- the line that ends them
 pub line_there : (in_flow : Bool) (h : Here) (start end : ℕ) → LendsWords in_flow h.unread start end
-    → (column spaces : ℕ) → EndsLine column spaces (drop (end - start) h.unread.text)
-    → EndsLine column spaces (steps (end - start) h).unread.text
+    → (column : Option ℕ) (spaces : ℕ) → EndsLine in_flow column spaces (drop (end - start) h.unread.text)
+    → EndsLine in_flow column spaces (steps (end - start) h).unread.text
 line_there in_flow h start end w column spaces line =
-    subst (EndsLine column spaces) (sym (words_text in_flow h start end w)) line
+    subst (EndsLine in_flow column spaces) (sym (words_text in_flow h start end w)) line
 
 pub line_lands :
     {I : Type 0} (unread : I → Unread → Type 0) (new : Spot I) (in_flow : Bool) (h : Here) (start end : ℕ)
-    (w : LendsWords in_flow h.unread start end) (column spaces : ℕ)
-    → EndsLine column spaces (drop (end - start) h.unread.text)
+    (w : LendsWords in_flow h.unread start end) (column : Option ℕ) (spaces : ℕ)
+    → EndsLine in_flow column spaces (drop (end - start) h.unread.text)
     → unread new.input (past_count (end - start + (1 + spaces)) h.unread)
     → new.place ≡ record {
       index = h.place.index + (end - start) + (1 + spaces);
@@ -140,17 +140,17 @@ line_lands unread new in_flow h start end w column spaces line known place begin
     let there = line_there in_flow h start end w column spaces line in
     let far : past_count (n + (1 + spaces)) h.unread ≡ past_count (1 + spaces) (steps n h).unread =
     sym (past_twice n (1 + spaces) h.unread) ∙ ap (past_count (1 + spaces)) (sym a.unread) in
-    feed_lands unread new (steps n h) column spaces there (subst (unread new.input) far known)
+    feed_lands unread new (steps n h) in_flow column spaces there (subst (unread new.input) far known)
     (place ∙ ap (λ (p : Place). record { index = p.index + (1 + spaces); line = p.line + 1; column = spaces })
     (sym a.place)) begins tab
 
 -- how far the cursor came
 pub ends_onward : (in_flow : Bool) (column : Option ℕ) (h : Here) (n : ℕ) (spaces : Option ℕ) (Lands : Here → Type 0)
-    → EndsBy in_flow column (steps n h) spaces Lands
+    → EndsWordsAt in_flow column (steps n h) spaces Lands
     → (to : Here) × ((start : Here) → Onward start h → Onward start to) × Lands to
 ends_onward in_flow column h n None Lands ends = (steps n h, λ start o. steps_onward n h o, ends.1)
 ends_onward in_flow column h n (Some spaces) Lands ends = (
   steps spaces (step (steps n h)),
   λ start o. steps_onward spaces (step (steps n h)) (stepped (steps_onward n h o)),
-  ends.2,
+  ends.1,
 )

@@ -38,10 +38,10 @@ impl<T: Input> Cursor<T> {
 }
 
 /// Passes the plain scalar that begins here and lends its text, with the place behind it, where it is seen at once
-/// that it ends on this line: behind words of printable ASCII a `:` or a flow indicator ends it, or outside flow the
-/// next line, which begins with a visible character of ASCII no further right than `column` (YAML 1.2.2, 6.1 and
-/// 7.3.3). The cursor then stands behind it, in the last case behind the break and the spaces that follow. Nothing is
-/// passed elsewhere.
+/// that it ends on this line: behind words of printable ASCII a `:` or a flow indicator ends it, or the next line,
+/// which begins with a flow indicator in flow, or outside flow with a visible character of ASCII no further right than
+/// `column` (YAML 1.2.2, 6.1 and 7.3.3). The cursor then stands behind it, and where the next line ends it, behind the
+/// break and the spaces that follow. Nothing is passed elsewhere.
 pub fn take_plain<'input, T: BorrowedInput<'input>>(
     cursor: &mut Cursor<T>,
     in_flow: bool,

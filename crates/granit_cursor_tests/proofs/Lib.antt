@@ -1,1 +1,1 @@
-mod TornLemmas
+pub mod StreamLemmas

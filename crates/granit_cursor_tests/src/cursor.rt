@@ -1,10 +1,11 @@
 //! Places, comments and tokens, and what no clause says; what runs take stands in granit_token_cases. What owns
 //! something is made and asked in functions that answer plain values: a test that asserts while it owns is dear to
 //! prove.
+use crate::agree::agree;
 use granit_base::{Marker, NoMemory, OwnedText, Placement, Span, Text, TextList};
 use granit_cursor::{Comment, Cursor, Token, TokenType, past_blanks, scan_comment, skip_comment};
 use granit_error::ScanError;
-use granit_input::{Input, StrInput};
+use granit_input::{BorrowedInput, Input, StrInput};
 use std::alloc::Global;
 use std::convert::AsStr;
 
@@ -83,21 +84,30 @@ fn places() -> [bool; 5] {
 
 #[test]
 fn cursors_tell_their_place(rt: HostRuntime) {
-    assert_eq!(rt; places(), [true; 5]);
+    agree(&rt, places(), [true; 5]);
 }
 
 /// Whether lines are taken behind two characters, and where the cursor then stands.
+fn take_lines<T: Input>(cursor: &mut Cursor<T>) -> (bool, Told) {
+    cursor.step();
+    cursor.step();
+    (cursor.take_lines(), told(cursor))
+}
+
+/// The same of a text.
 fn behind_lines(text: &str) -> (bool, Told) {
     let mut cursor = Cursor::new(StrInput::new(text));
-    cursor.step();
-    cursor.step();
-    (cursor.take_lines(), told(&cursor))
+    take_lines(&mut cursor)
 }
 
 #[test]
 fn lines_are_taken_with_their_indentation(rt: HostRuntime) {
-    assert_eq!(rt; behind_lines("a\t\n \n  b"), (true, (3, 2, true, None)));
-    assert_eq!(rt; behind_lines("a\t\n\tb"), (false, (1, 2, false, Some(1))));
+    agree(&rt, behind_lines("a\t\n \n  b"), (true, (3, 2, true, None)));
+    agree(
+        &rt,
+        behind_lines("a\t\n\tb"),
+        (false, (1, 2, false, Some(1))),
+    );
 }
 
 /// Whether a copy that was made is equal to what it is of. What is let go in a generic function is cheap to prove.
@@ -167,9 +177,9 @@ fn is_right<T: Tells + Drop>(
 }
 
 /// The same of the comment that begins here, where one does.
-fn is_right_at(
+fn is_right_at<'a, T: BorrowedInput<'a>>(
     alloc: Global,
-    cursor: &mut Cursor<StrInput<'_>>,
+    cursor: &mut Cursor<T>,
     text: &str,
     placement: Placement,
 ) -> [bool; 2] {
@@ -181,9 +191,9 @@ fn is_right_at(
 }
 
 /// The same of the comment behind a character and blanks, and whether it ends behind the fifth character.
-fn is_right_behind(
+fn is_right_behind<'a, T: BorrowedInput<'a>>(
     alloc: Global,
-    cursor: &mut Cursor<StrInput<'_>>,
+    cursor: &mut Cursor<T>,
     text: &str,
     placement: Placement,
 ) -> [bool; 3] {
@@ -204,7 +214,7 @@ fn comments_tell_whether_they_are_right(rt: HostRuntime) {
     let alloc = rt.alloc();
     let free = comment_of(alloc, "\t # b\r\n", " b", Placement::Free);
     let right = comment_of(alloc, "a #\té\n", "\té", Placement::Right);
-    assert_eq!(rt; [free, right], [[true; 3]; 2]);
+    agree(&rt, [free, right], [[true; 3]; 2]);
 }
 
 /// The number of the kind by which a comment is refused, and the index of its mark; both 0 where it isn't.
@@ -216,7 +226,7 @@ fn place(read: &Result<(), ScanError>) -> (u8, usize) {
 }
 
 /// The same of the comment that begins here, where one does.
-fn refused_at(cursor: &mut Cursor<StrInput<'_>>) -> (u8, usize) {
+fn refused_at<'a, T: BorrowedInput<'a>>(cursor: &mut Cursor<T>) -> (u8, usize) {
     cursor.look(1);
     if cursor.input().peek() != '#' {
         return (0, 0);
@@ -232,7 +242,7 @@ fn refused(text: &str) -> (u8, usize) {
 
 #[test]
 fn comments_are_refused(rt: HostRuntime) {
-    assert_eq!(rt; refused("# a\0b"), (76, 3));
+    agree(&rt, refused("# a\0b"), (76, 3));
 }
 
 /// Whether the texts of a comment are these: trimmed, and by its two names; and whether a copy of it is the same, and
@@ -254,7 +264,7 @@ fn of_a_comment(alloc: Global) -> [bool; 4] {
 
 #[test]
 fn comments_are_cloned(rt: HostRuntime) {
-    assert_eq!(rt; of_a_comment(rt.alloc()), [true; 4]);
+    agree(&rt, of_a_comment(rt.alloc()), [true; 4]);
 }
 
 /// One parameter more.
@@ -304,5 +314,5 @@ fn told_of_directive(alloc: Global) -> [bool; 3] {
 
 #[test]
 fn tokens_are_cloned(rt: HostRuntime) {
-    assert_eq!(rt; told_of_directive(rt.alloc()), [true; 3]);
+    agree(&rt, told_of_directive(rt.alloc()), [true; 3]);
 }

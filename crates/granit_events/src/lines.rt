@@ -11,7 +11,7 @@ use crate::ends::{Failed, Sink};
 use crate::writing::write_all;
 use granit_base::{NoMemory, Span};
 use granit_event::Event;
-use granit_lines::push_line;
+use granit_lines::Page;
 use std::alloc::Global;
 
 /// Why an output was not written to its end.
@@ -41,18 +41,18 @@ impl From<NoMemory> for WriteEnd {
 const FULL: usize = 32_768;
 
 /// Hands the buffer to the sink, and empties it, where it is full.
-fn pass_on<W: Sink>(sink: &mut W, out: &mut Vec<u8>) -> Result<(), Failed>
-    ensures passed { OnOk result ((piece : List ℕ) × (out.old.items ≡ piece ++ out.new.items)
+fn pass_on<W: Sink>(sink: &mut W, page: &mut Page) -> Result<(), Failed>
+    ensures passed { OnOk result ((piece : List ℕ) × (page.old ≡ piece ++ page.new)
         × Appends (W.written sink.old) (W.written sink.new) piece) }
     ensures same { OnOk result (W.faults sink.new ≡ W.faults sink.old) }
-    ensures front { OnErr result (WroteFront (W.written sink.old) (W.written sink.new) out.old.items) }
+    ensures front { OnErr result (WroteFront (W.written sink.old) (W.written sink.new) page.old) }
     ensures failed { OnErr result (Rose (W.faults sink.old) (W.faults sink.new)) }
 {
-    if out.len() < FULL {
+    if page.len() < FULL {
         return Ok(());
     }
-    write_all(sink, out.as_slice())?;
-    out.clear();
+    write_all(sink, page.as_slice())?;
+    page.clear();
     Ok(())
 }
 
@@ -75,11 +75,11 @@ pub fn write_events<W: Sink>(
     ensures failed { result ≡ Err ends.Failed → Rose (W.faults sink.old) (W.faults sink.new) }
     ensures no_memory { result ≡ Err ends.NoMemory → W.faults sink.new ≡ W.faults sink.old }
 {
-    let mut out = Vec::new(alloc);
+    let mut page = Page::new(alloc);
     'events: for (event, span) in events {
-        push_line(&mut out, event, span)?;
-        pass_on(sink, &mut out)?;
+        page.push_line(event, span)?;
+        pass_on(sink, &mut page)?;
     }
-    write_all(sink, out.as_slice())?;
+    write_all(sink, page.as_slice())?;
     Ok(())
 }

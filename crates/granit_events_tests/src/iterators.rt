@@ -1,4 +1,5 @@
 //! Iterators that fail: their first error stands in the place of whatever was read up to it.
+use crate::agree::agree;
 use crate::answers::{Place, count, place_of};
 use granit_error::{ErrorKind, Options};
 use granit_load::load_fallible;
@@ -75,8 +76,8 @@ fn without_an_error(rt: HostRuntime) {
         items_count(alloc, BLOCKS),
         items_count(alloc, "a: b\n- c\n"),
     ];
-    assert_eq!(rt; counts, [Some(2), Some(16), None]);
-    assert!(rt; items_count(alloc, DOCUMENTS).is_some());
+    agree(&rt, counts, [Some(2), Some(16), None]);
+    agree(&rt, items_count(alloc, DOCUMENTS).is_some(), true);
 }
 
 #[test]
@@ -87,14 +88,14 @@ fn an_error_behind_each_item(rt: HostRuntime) {
         fails_at_each(alloc, BLOCKS),
         fails_at_each(alloc, DOCUMENTS),
     ];
-    assert_eq!(rt; fail, [true, true, true]);
+    agree(&rt, fail, [true, true, true]);
 }
 
 #[test]
 fn where_an_error_stands(rt: HostRuntime) {
     let alloc = rt.alloc();
     let places = [refusal(alloc, "[a", 1), refusal(alloc, "ab", 1)];
-    assert_eq!(rt; places, [Some((80, 1, 1, 1)), Some((80, 1, 1, 1))]);
+    agree(&rt, places, [Some((80, 1, 1, 1)), Some((80, 1, 1, 1))]);
 }
 
 /// The number of a refusal, and its character.
@@ -106,5 +107,5 @@ fn fault_behind(alloc: Global, text: &str, count: usize) -> Option<(u8, usize)> 
 #[test]
 fn a_fault_before_an_error(rt: HostRuntime) {
     let text = "a: 1\n- b\nc: d\ne: f\ng: h\ni: j\nk: l\n";
-    assert_eq!(rt; fault_behind(rt.alloc(), text, 34), Some((33, 5)));
+    agree(&rt, fault_behind(rt.alloc(), text, 34), Some((33, 5)));
 }

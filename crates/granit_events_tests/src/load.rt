@@ -1,4 +1,5 @@
 //! All events of a text, or its fault.
+use crate::agree::agree;
 use crate::answers::{count, fault};
 use granit_error::{Options, options};
 use granit_load::{load_chars, load_str};
@@ -22,7 +23,7 @@ fn whole_texts(rt: HostRuntime) {
         text_count(alloc, "a: b\nc:\n- d\n- {e: f}\n"),
         text_count(alloc, "a: b\n- c\n"),
     ];
-    assert_eq!(rt; counts, [Some(2), Some(16), None]);
+    agree(&rt, counts, [Some(2), Some(16), None]);
 }
 
 #[test]
@@ -34,7 +35,7 @@ fn refusals(rt: HostRuntime) {
         text_fault(alloc, "a: 1\nb: *c\n", open),
         text_fault(alloc, "a: [b", open),
     ];
-    assert_eq!(rt; faults, [Some((37, 8)), None, Some((2, 3))]);
+    agree(&rt, faults, [Some((37, 8)), None, Some((2, 3))]);
 }
 
 /// How many events the characters of a text have; none where they are refused.
@@ -51,7 +52,7 @@ fn characters_fault(alloc: Global, text: &str) -> Option<(u8, usize)> {
 fn whole_characters(rt: HostRuntime) {
     let count = characters_count(rt.alloc(), "a: b\nc:\n- d\n- {e: f}\n");
     let fault = characters_fault(rt.alloc(), "a: 1\n- b");
-    assert_eq!(rt; (count, fault), (Some(16), Some((33, 5))));
+    agree(&rt, (count, fault), (Some(16), Some((33, 5))));
 }
 
 /// Two documents, the second one with the handle of the first.
@@ -63,5 +64,5 @@ fn handles_by_the_option(rt: HostRuntime) {
         text_count(rt.alloc(), KEPT),
         count(load_str(rt.alloc(), KEPT, options!(keep_tags: true))),
     ];
-    assert_eq!(rt; counts, [None, Some(8)]);
+    agree(&rt, counts, [None, Some(8)]);
 }

@@ -1,4 +1,5 @@
 //! The printed line of each event.
+use crate::agree::agree;
 use granit_base::{Marker, NoMemory, Placement, ScalarStyle, Span, StructureStyle, Text};
 use granit_event::{Event, Tag, YamlVersion};
 use granit_events::push_line;
@@ -80,7 +81,7 @@ fn streams_and_aliases(alloc: Global) -> [bool; 3] {
 
 #[test]
 fn lines_of_streams_and_aliases(rt: HostRuntime) {
-    assert_eq!(rt; streams_and_aliases(rt.alloc()), [true; 3]);
+    agree(&rt, streams_and_aliases(rt.alloc()), [true; 3]);
 }
 
 /// Whether documents print their lines.
@@ -119,7 +120,7 @@ fn documents(alloc: Global) -> [bool; 4] {
 
 #[test]
 fn lines_of_documents(rt: HostRuntime) {
-    assert_eq!(rt; documents(rt.alloc()), [true; 4]);
+    agree(&rt, documents(rt.alloc()), [true; 4]);
 }
 
 /// Whether collections print their lines.
@@ -165,7 +166,7 @@ fn collections(alloc: Global) -> [bool; 5] {
 
 #[test]
 fn lines_of_collections(rt: HostRuntime) {
-    assert_eq!(rt; collections(rt.alloc()), [true; 5]);
+    agree(&rt, collections(rt.alloc()), [true; 5]);
 }
 
 /// A scalar with a tag.
@@ -227,7 +228,7 @@ fn properties(alloc: Global) -> [bool; 5] {
 
 #[test]
 fn lines_of_properties(rt: HostRuntime) {
-    assert_eq!(rt; properties(rt.alloc()), [true; 5]);
+    agree(&rt, properties(rt.alloc()), [true; 5]);
 }
 
 /// Whether comments print their lines.
@@ -262,7 +263,7 @@ fn comments(alloc: Global) -> [bool; 4] {
 
 #[test]
 fn lines_of_comments(rt: HostRuntime) {
-    assert_eq!(rt; comments(rt.alloc()), [true; 4]);
+    agree(&rt, comments(rt.alloc()), [true; 4]);
 }
 
 /// Whether scalars print their lines.
@@ -297,5 +298,5 @@ fn scalars(alloc: Global) -> [bool; 4] {
 
 #[test]
 fn lines_of_scalars(rt: HostRuntime) {
-    assert_eq!(rt; scalars(rt.alloc()), [true; 4]);
+    agree(&rt, scalars(rt.alloc()), [true; 4]);
 }

@@ -3,6 +3,7 @@
 ghost use Rattle.std.specs.Prelude.{◌≡◌, IfErr};
 ghost use Rattle.granit_error.specs.FaultKind.{NoMemory as OutOfMemory};
 
+use crate::agree::agree;
 use granit_base::{ScalarStyle, Span, StructureStyle, Text};
 use granit_error::{Options, ScanError};
 use granit_event::Event;
@@ -133,5 +134,5 @@ fn trees_are_read_back(rt: HostRuntime) {
         ('d', 41, 41),
         ('s', 42, 42),
     ];
-    assert_eq!(rt; are_read_back(rt.alloc(), &wanted), Some(true));
+    agree(&rt, are_read_back(rt.alloc(), &wanted), Some(true));
 }

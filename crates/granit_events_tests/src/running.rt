@@ -1,4 +1,5 @@
 //! How runs end, what they write, and each source and sink once.
+use crate::agree::agree;
 use granit_base::{NoMemory, OwnedText, TextList};
 use granit_events::{
     MemorySink, MemorySource, PlainSink, PlainSource, ReadSource, Source, Status, WriteSink, run,
@@ -148,7 +149,7 @@ fn whole_runs(alloc: Global) -> [Option<Status>; 4] {
 #[test]
 fn prints_what_came(rt: HostRuntime) {
     let (done, fault) = (Some(Status::Done), Some(Status::Fault));
-    assert_eq!(rt; whole_runs(rt.alloc()), [done, done, fault, done]);
+    agree(&rt, whole_runs(rt.alloc()), [done, done, fault, done]);
 }
 
 /// How runs end that say what is wrong.
@@ -165,7 +166,7 @@ fn wrong_runs(alloc: Global) -> [Option<Status>; 4] {
 #[test]
 fn prints_what_is_wrong(rt: HostRuntime) {
     let (usage, not_utf8) = (Some(Status::Usage), Some(Status::NotUtf8));
-    assert_eq!(rt; wrong_runs(rt.alloc()), [not_utf8, usage, usage, usage]);
+    agree(&rt, wrong_runs(rt.alloc()), [not_utf8, usage, usage, usage]);
 }
 
 const UNRESOLVED: &str = "StreamStart 0:1:1-0:1:1\n\
@@ -191,7 +192,7 @@ fn runs_with_options(alloc: Global) -> [Option<Status>; 3] {
 #[test]
 fn reads_its_words(rt: HostRuntime) {
     let ends = [Some(Status::Done), Some(Status::Fault), Some(Status::Usage)];
-    assert_eq!(rt; runs_with_options(rt.alloc()), ends);
+    agree(&rt, runs_with_options(rt.alloc()), ends);
 }
 
 /// How runs end of which the source fails, or is slow.
@@ -233,8 +234,8 @@ fn unwritten(alloc: Global) -> [Option<Status>; 3] {
 #[test]
 fn fails_where_the_outside_does(rt: HostRuntime) {
     let reads = [Some(Status::Done), Some(Status::ReadFault)];
-    assert_eq!(rt; slow_and_unread(rt.alloc()), reads);
-    assert_eq!(rt; unwritten(rt.alloc()), [Some(Status::WriteFault); 3]);
+    agree(&rt, slow_and_unread(rt.alloc()), reads);
+    agree(&rt, unwritten(rt.alloc()), [Some(Status::WriteFault); 3]);
 }
 
 /// How a run ends that hands on bytes and takes all lines.
@@ -263,11 +264,12 @@ fn over_spaces(alloc: Global, count: usize, output: &str) -> Option<(Status, Opt
 #[test]
 fn stops_at_the_limit(rt: HostRuntime) {
     let alloc = rt.alloc();
-    assert_eq!(rt;
+    agree(
+        &rt,
         over_spaces(alloc, 67_108_865, "input too long\n"),
-        Some((Status::TooLong, Some(15)))
+        Some((Status::TooLong, Some(15))),
     );
-    assert_eq!(rt; plain_status_of_spaces(alloc), Some(Status::Done));
+    agree(&rt, plain_status_of_spaces(alloc), Some(Status::Done));
 }
 
 /// The code of a run through std's traits, and how many bytes of an output it writes.
@@ -287,8 +289,9 @@ fn code_through_std(alloc: Global, bytes: &[u8], written: &mut Vec<u8>) -> u8 {
 
 #[test]
 fn reads_and_writes_through_std(rt: HostRuntime) {
-    assert_eq!(rt;
+    agree(
+        &rt,
         through_std(rt.alloc(), PAIR, PAIR_LINES),
-        (0, Some(PAIR_LINES.len()))
+        (0, Some(PAIR_LINES.len())),
     );
 }

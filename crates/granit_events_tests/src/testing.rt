@@ -1,4 +1,5 @@
 //! `selftest`: its line beside what the calls answer whose numbers it prints, wrong words and a failing sink.
+use crate::agree::agree;
 use crate::running::{one, words};
 use granit_error::Options;
 use granit_events::{MemorySink, MemorySource, Status, run};
@@ -92,11 +93,11 @@ fn prints_the_numbers_of_trees(rt: HostRuntime) {
         prints(&rt, &["selftest", "7", "1000"], many),
         prints(&rt, &["selftest", "7", "1000"], many),
     ];
-    assert_eq!(rt; given, [true; 4]);
+    agree(&rt, given, [true; 4]);
     // the same numbers by the calls that they are of
     let counted = [counts(rt.alloc(), 0, 1), counts(rt.alloc(), 7, 1000)];
     let wanted = [Some([1, 1, 7, 6]), Some([1000, 9296, 66693, 15010])];
-    assert_eq!(rt; counted, wanted);
+    agree(&rt, counted, wanted);
 }
 
 #[test]
@@ -113,7 +114,7 @@ fn names_the_first_wrong_word(rt: HostRuntime) {
         is_wrong(&rt, &["selftest", "0", "1", "1"], "usage: word 4\n"),
         is_wrong(&rt, &["selftests", "0", "1"], "usage: word 1\n"),
     ];
-    assert_eq!(rt; given, [true; 8]);
+    agree(&rt, given, [true; 8]);
 }
 
 #[test]
@@ -123,5 +124,5 @@ fn leaves_a_front_where_the_sink_fails(rt: HostRuntime) {
         fails(&rt, 2, "docum"),
         fails(&rt, 3, "documents "),
     ];
-    assert_eq!(rt; given, [true; 3]);
+    agree(&rt, given, [true; 3]);
 }

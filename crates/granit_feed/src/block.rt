@@ -121,12 +121,7 @@ fn bare_colon_in_mapping<'input>(
             mapping_colon(state, alloc, options, token, column)
         }
         PairStage::BehindQuestion => mapping_colon(state, alloc, options, token, column),
-        PairStage::BeforePair => colon_behind_pair(state, alloc, options, token, column),
-        PairStage::AtKey => colon_behind_pair(state, alloc, options, token, column),
-        PairStage::BehindKey => colon_behind_pair(state, alloc, options, token, column),
-        PairStage::AtValue => colon_behind_pair(state, alloc, options, token, column),
-        PairStage::BehindAlone => colon_behind_pair(state, alloc, options, token, column),
-        PairStage::BehindPair => colon_behind_pair(state, alloc, options, token, column),
+        _ => colon_behind_pair(state, alloc, options, token, column),
     }
 }
 
@@ -191,14 +186,7 @@ fn next_pair<'input>(
             state.owed(token.lexeme.start)?;
             Ok(mapping_at(state, column, PairStage::AtQuestion)?)
         }
-        TokenSort::BeginsNode => pair_colon(state, fault, alloc, options, token, column, stage),
-        TokenSort::DashToken => pair_colon(state, fault, alloc, options, token, column, stage),
-        TokenSort::BareColon => pair_colon(state, fault, alloc, options, token, column, stage),
-        TokenSort::KeyedColon => pair_colon(state, fault, alloc, options, token, column, stage),
-        TokenSort::CommaToken => pair_colon(state, fault, alloc, options, token, column, stage),
-        TokenSort::SequenceCloser => pair_colon(state, fault, alloc, options, token, column, stage),
-        TokenSort::MappingCloser => pair_colon(state, fault, alloc, options, token, column, stage),
-        TokenSort::OfStream => pair_colon(state, fault, alloc, options, token, column, stage),
+        _ => pair_colon(state, fault, alloc, options, token, column, stage),
     }
 }
 
@@ -249,15 +237,7 @@ fn at_block_key<'input>(
 {
     match token.sort {
         TokenSort::BeginsNode => bare(state, fault, alloc, options, token),
-        TokenSort::BeginsKey => Err(no_key(fault, token)),
-        TokenSort::DashToken => Err(no_key(fault, token)),
-        TokenSort::QuestionToken => Err(no_key(fault, token)),
-        TokenSort::BareColon => Err(no_key(fault, token)),
-        TokenSort::KeyedColon => Err(no_key(fault, token)),
-        TokenSort::CommaToken => Err(no_key(fault, token)),
-        TokenSort::SequenceCloser => Err(no_key(fault, token)),
-        TokenSort::MappingCloser => Err(no_key(fault, token)),
-        TokenSort::OfStream => Err(no_key(fault, token)),
+        _ => Err(no_key(fault, token)),
     }
 }
 
@@ -277,15 +257,7 @@ fn behind_block_key<'input>(
 {
     match token.sort {
         TokenSort::KeyedColon => Ok(mapping_colon(state, alloc, options, token, column)?),
-        TokenSort::BeginsKey => Err(no_key(fault, token)),
-        TokenSort::BeginsNode => Err(no_key(fault, token)),
-        TokenSort::DashToken => Err(no_key(fault, token)),
-        TokenSort::QuestionToken => Err(no_key(fault, token)),
-        TokenSort::BareColon => Err(no_key(fault, token)),
-        TokenSort::CommaToken => Err(no_key(fault, token)),
-        TokenSort::SequenceCloser => Err(no_key(fault, token)),
-        TokenSort::MappingCloser => Err(no_key(fault, token)),
-        TokenSort::OfStream => Err(no_key(fault, token)),
+        _ => Err(no_key(fault, token)),
     }
 }
 
@@ -308,21 +280,7 @@ pub(crate) fn in_mapping<'input>(
     match stage {
         PairStage::AtKey => at_block_key(state, fault, alloc, options, token),
         PairStage::BehindKey => behind_block_key(state, fault, alloc, options, token, column),
-        PairStage::BeforePair => behind_indicator(
-            state, fault, alloc, options, token, column, stage,
-        ),
-        PairStage::AtQuestion => behind_indicator(
-            state, fault, alloc, options, token, column, stage,
-        ),
-        PairStage::BehindQuestion => behind_indicator(
-            state, fault, alloc, options, token, column, stage,
-        ),
         PairStage::AtValue => behind_indicator(state, fault, alloc, options, token, column, stage),
-        PairStage::BehindAlone => behind_indicator(
-            state, fault, alloc, options, token, column, stage,
-        ),
-        PairStage::BehindPair => behind_indicator(
-            state, fault, alloc, options, token, column, stage,
-        ),
+        _ => behind_indicator(state, fault, alloc, options, token, column, stage),
     }
 }

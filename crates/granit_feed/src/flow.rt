@@ -174,11 +174,7 @@ fn at_entry<'input>(
             bare(state, fault, alloc, options, token)
         }
         TokenSort::BeginsNode => bare(state, fault, alloc, options, token),
-        TokenSort::DashToken => Err(no_entry(fault, token)),
-        TokenSort::KeyedColon => Err(no_entry(fault, token)),
-        TokenSort::CommaToken => Err(no_entry(fault, token)),
-        TokenSort::MappingCloser => Err(no_entry(fault, token)),
-        TokenSort::OfStream => Err(no_entry(fault, token)),
+        _ => Err(no_entry(fault, token)),
     }
 }
 
@@ -196,14 +192,7 @@ fn behind_flow_entry<'input>(
     match token.sort {
         TokenSort::SequenceCloser => Ok(close_flow(state, token)?),
         TokenSort::CommaToken => Ok(state.with_top(Frame::FlowSequence(false))?),
-        TokenSort::BeginsKey => Err(no_separator(fault, token)),
-        TokenSort::BeginsNode => Err(no_separator(fault, token)),
-        TokenSort::DashToken => Err(no_separator(fault, token)),
-        TokenSort::QuestionToken => Err(no_separator(fault, token)),
-        TokenSort::BareColon => Err(no_separator(fault, token)),
-        TokenSort::KeyedColon => Err(no_separator(fault, token)),
-        TokenSort::MappingCloser => Err(no_separator(fault, token)),
-        TokenSort::OfStream => Err(no_separator(fault, token)),
+        _ => Err(no_separator(fault, token)),
     }
 }
 
@@ -274,11 +263,7 @@ fn before_pair<'input>(
         },
         TokenSort::BareColon => Ok(null_colon(state, alloc, options, token, single)?),
         TokenSort::BeginsNode => bare(state, fault, alloc, options, token),
-        TokenSort::DashToken => Err(no_entry(fault, token)),
-        TokenSort::KeyedColon => Err(no_entry(fault, token)),
-        TokenSort::CommaToken => Err(no_entry(fault, token)),
-        TokenSort::SequenceCloser => Err(no_entry(fault, token)),
-        TokenSort::OfStream => Err(no_entry(fault, token)),
+        _ => Err(no_entry(fault, token)),
     }
 }
 
@@ -301,15 +286,7 @@ fn at_flow_key<'input>(
 {
     match token.sort {
         TokenSort::BeginsNode => bare(state, fault, alloc, options, token),
-        TokenSort::BeginsKey => Err(no_entry(fault, token)),
-        TokenSort::DashToken => Err(no_entry(fault, token)),
-        TokenSort::QuestionToken => Err(no_entry(fault, token)),
-        TokenSort::BareColon => Err(no_entry(fault, token)),
-        TokenSort::KeyedColon => Err(no_entry(fault, token)),
-        TokenSort::CommaToken => Err(no_entry(fault, token)),
-        TokenSort::SequenceCloser => Err(no_entry(fault, token)),
-        TokenSort::MappingCloser => Err(no_entry(fault, token)),
-        TokenSort::OfStream => Err(no_entry(fault, token)),
+        _ => Err(no_entry(fault, token)),
     }
 }
 
@@ -332,15 +309,7 @@ fn behind_flow_key<'input>(
 {
     match token.sort {
         TokenSort::KeyedColon => Ok(flow_colon(state, alloc, options, token, single)?),
-        TokenSort::BeginsKey => Err(no_pair_separator(fault, token)),
-        TokenSort::BeginsNode => Err(no_pair_separator(fault, token)),
-        TokenSort::DashToken => Err(no_pair_separator(fault, token)),
-        TokenSort::QuestionToken => Err(no_pair_separator(fault, token)),
-        TokenSort::BareColon => Err(no_pair_separator(fault, token)),
-        TokenSort::CommaToken => Err(no_pair_separator(fault, token)),
-        TokenSort::SequenceCloser => Err(no_pair_separator(fault, token)),
-        TokenSort::MappingCloser => Err(no_pair_separator(fault, token)),
-        TokenSort::OfStream => Err(no_pair_separator(fault, token)),
+        _ => Err(no_pair_separator(fault, token)),
     }
 }
 
@@ -366,12 +335,7 @@ fn at_flow_question<'input>(
         TokenSort::CommaToken => Ok(behind_comma(state, token, single)?),
         TokenSort::BareColon => Ok(null_colon(state, alloc, options, token, single)?),
         TokenSort::BeginsNode => bare(state, fault, alloc, options, token),
-        TokenSort::BeginsKey => Err(no_entry(fault, token)),
-        TokenSort::DashToken => Err(no_entry(fault, token)),
-        TokenSort::QuestionToken => Err(no_entry(fault, token)),
-        TokenSort::KeyedColon => Err(no_entry(fault, token)),
-        TokenSort::SequenceCloser => Err(no_entry(fault, token)),
-        TokenSort::OfStream => Err(no_entry(fault, token)),
+        _ => Err(no_entry(fault, token)),
     }
 }
 
@@ -396,13 +360,7 @@ fn behind_flow_question<'input>(
         TokenSort::MappingCloser => Ok(close_flow(state, token)?),
         TokenSort::CommaToken => Ok(behind_comma(state, token, single)?),
         TokenSort::BareColon => Ok(flow_colon(state, alloc, options, token, single)?),
-        TokenSort::BeginsKey => Err(no_pair_separator(fault, token)),
-        TokenSort::BeginsNode => Err(no_pair_separator(fault, token)),
-        TokenSort::DashToken => Err(no_pair_separator(fault, token)),
-        TokenSort::QuestionToken => Err(no_pair_separator(fault, token)),
-        TokenSort::KeyedColon => Err(no_pair_separator(fault, token)),
-        TokenSort::SequenceCloser => Err(no_pair_separator(fault, token)),
-        TokenSort::OfStream => Err(no_pair_separator(fault, token)),
+        _ => Err(no_pair_separator(fault, token)),
     }
 }
 
@@ -427,13 +385,7 @@ fn at_flow_value<'input>(
         TokenSort::MappingCloser => Ok(close_flow(state, token)?),
         TokenSort::CommaToken => Ok(behind_comma(state, token, single)?),
         TokenSort::BeginsNode => bare(state, fault, alloc, options, token),
-        TokenSort::BeginsKey => Err(no_entry(fault, token)),
-        TokenSort::DashToken => Err(no_entry(fault, token)),
-        TokenSort::QuestionToken => Err(no_entry(fault, token)),
-        TokenSort::BareColon => Err(no_entry(fault, token)),
-        TokenSort::KeyedColon => Err(no_entry(fault, token)),
-        TokenSort::SequenceCloser => Err(no_entry(fault, token)),
-        TokenSort::OfStream => Err(no_entry(fault, token)),
+        _ => Err(no_entry(fault, token)),
     }
 }
 
@@ -456,14 +408,7 @@ fn behind_alone<'input>(
     match token.sort {
         TokenSort::MappingCloser => Ok(close_flow(state, token)?),
         TokenSort::CommaToken => Ok(behind_comma(state, token, single)?),
-        TokenSort::BeginsKey => Err(no_pair_separator(fault, token)),
-        TokenSort::BeginsNode => Err(no_pair_separator(fault, token)),
-        TokenSort::DashToken => Err(no_pair_separator(fault, token)),
-        TokenSort::QuestionToken => Err(no_pair_separator(fault, token)),
-        TokenSort::BareColon => Err(no_pair_separator(fault, token)),
-        TokenSort::KeyedColon => Err(no_pair_separator(fault, token)),
-        TokenSort::SequenceCloser => Err(no_pair_separator(fault, token)),
-        TokenSort::OfStream => Err(no_pair_separator(fault, token)),
+        _ => Err(no_pair_separator(fault, token)),
     }
 }
 
@@ -486,14 +431,7 @@ fn behind_flow_pair<'input>(
     match token.sort {
         TokenSort::MappingCloser => Ok(close_flow(state, token)?),
         TokenSort::CommaToken => Ok(behind_comma(state, token, single)?),
-        TokenSort::BeginsKey => Err(no_pair_separator(fault, token)),
-        TokenSort::BeginsNode => Err(no_pair_separator(fault, token)),
-        TokenSort::DashToken => Err(no_pair_separator(fault, token)),
-        TokenSort::QuestionToken => Err(no_pair_separator(fault, token)),
-        TokenSort::BareColon => Err(no_pair_separator(fault, token)),
-        TokenSort::KeyedColon => Err(no_pair_separator(fault, token)),
-        TokenSort::SequenceCloser => Err(no_pair_separator(fault, token)),
-        TokenSort::OfStream => Err(no_pair_separator(fault, token)),
+        _ => Err(no_pair_separator(fault, token)),
     }
 }
 
@@ -546,13 +484,7 @@ pub(crate) fn in_flow_pair<'input>(
 {
     match stage {
         PairStage::BehindQuestion => Ok(state.with_top(Frame::FlowPair(PairStage::AtValue))?),
-        PairStage::BeforePair => node_of_pair(state, fault, alloc, options, token),
-        PairStage::AtKey => node_of_pair(state, fault, alloc, options, token),
-        PairStage::BehindKey => node_of_pair(state, fault, alloc, options, token),
-        PairStage::AtQuestion => node_of_pair(state, fault, alloc, options, token),
-        PairStage::AtValue => node_of_pair(state, fault, alloc, options, token),
-        PairStage::BehindAlone => node_of_pair(state, fault, alloc, options, token),
-        PairStage::BehindPair => node_of_pair(state, fault, alloc, options, token),
+        _ => node_of_pair(state, fault, alloc, options, token),
     }
 }
 
@@ -571,14 +503,6 @@ fn node_of_pair<'input>(
 {
     match token.sort {
         TokenSort::BeginsNode => bare(state, fault, alloc, options, token),
-        TokenSort::BeginsKey => Err(no_entry(fault, token)),
-        TokenSort::DashToken => Err(no_entry(fault, token)),
-        TokenSort::QuestionToken => Err(no_entry(fault, token)),
-        TokenSort::BareColon => Err(no_entry(fault, token)),
-        TokenSort::KeyedColon => Err(no_entry(fault, token)),
-        TokenSort::CommaToken => Err(no_entry(fault, token)),
-        TokenSort::SequenceCloser => Err(no_entry(fault, token)),
-        TokenSort::MappingCloser => Err(no_entry(fault, token)),
-        TokenSort::OfStream => Err(no_entry(fault, token)),
+        _ => Err(no_entry(fault, token)),
     }
 }

@@ -162,18 +162,7 @@ fn behind_directives<'input>(
             Ok(())
         }
         LexemeKind::DocumentStart => open_document(state, fault, token, version),
-        LexemeKind::DocumentEnd => Err(no_start(fault, token)),
-        LexemeKind::StreamEnd => Err(no_start(fault, token)),
-        LexemeKind::Open(_) => Err(no_start(fault, token)),
-        LexemeKind::Close(_) => Err(no_start(fault, token)),
-        LexemeKind::Comma => Err(no_start(fault, token)),
-        LexemeKind::Dash => Err(no_start(fault, token)),
-        LexemeKind::Question => Err(no_start(fault, token)),
-        LexemeKind::Colon => Err(no_start(fault, token)),
-        LexemeKind::Alias(_) => Err(no_start(fault, token)),
-        LexemeKind::Anchor(_) => Err(no_start(fault, token)),
-        LexemeKind::Tag(_, _) => Err(no_start(fault, token)),
-        LexemeKind::Scalar(_, _) => Err(no_start(fault, token)),
+        _ => Err(no_start(fault, token)),
     }
 }
 
@@ -184,15 +173,7 @@ fn bare_start(token: &Token<'_>) -> Span
 {
     match token.sort {
         TokenSort::BeginsNode => token.span().with_indent(token.lexeme.indent),
-        TokenSort::BeginsKey => Span::empty(token.lexeme.start),
-        TokenSort::DashToken => Span::empty(token.lexeme.start),
-        TokenSort::QuestionToken => Span::empty(token.lexeme.start),
-        TokenSort::BareColon => Span::empty(token.lexeme.start),
-        TokenSort::KeyedColon => Span::empty(token.lexeme.start),
-        TokenSort::CommaToken => Span::empty(token.lexeme.start),
-        TokenSort::SequenceCloser => Span::empty(token.lexeme.start),
-        TokenSort::MappingCloser => Span::empty(token.lexeme.start),
-        TokenSort::OfStream => Span::empty(token.lexeme.start),
+        _ => Span::empty(token.lexeme.start),
     }
 }
 
@@ -320,16 +301,7 @@ fn when_fresh<'input>(
         LexemeKind::TagPrefix(_, _) => first_directive(state, fault, alloc, options, token),
         LexemeKind::Reserved(_, _) => first_directive(state, fault, alloc, options, token),
         LexemeKind::DocumentStart => plain_document(state, fault, token),
-        LexemeKind::Open(_) => begin_document(state, fault, alloc, options, token),
-        LexemeKind::Close(_) => begin_document(state, fault, alloc, options, token),
-        LexemeKind::Comma => begin_document(state, fault, alloc, options, token),
-        LexemeKind::Dash => begin_document(state, fault, alloc, options, token),
-        LexemeKind::Question => begin_document(state, fault, alloc, options, token),
-        LexemeKind::Colon => begin_document(state, fault, alloc, options, token),
-        LexemeKind::Alias(_) => begin_document(state, fault, alloc, options, token),
-        LexemeKind::Anchor(_) => begin_document(state, fault, alloc, options, token),
-        LexemeKind::Tag(_, _) => begin_document(state, fault, alloc, options, token),
-        LexemeKind::Scalar(_, _) => begin_document(state, fault, alloc, options, token),
+        _ => begin_document(state, fault, alloc, options, token),
     }
 }
 
@@ -354,17 +326,7 @@ fn when_between<'input>(
         LexemeKind::Reserved(_, _) => Err(no_end(fault, token)),
         LexemeKind::DocumentStart => plain_document(state, fault, token),
         LexemeKind::StreamEnd => Ok(end_stream(state, token)?),
-        LexemeKind::DocumentEnd => Err(no_start(fault, token)),
-        LexemeKind::Open(_) => Err(no_start(fault, token)),
-        LexemeKind::Close(_) => Err(no_start(fault, token)),
-        LexemeKind::Comma => Err(no_start(fault, token)),
-        LexemeKind::Dash => Err(no_start(fault, token)),
-        LexemeKind::Question => Err(no_start(fault, token)),
-        LexemeKind::Colon => Err(no_start(fault, token)),
-        LexemeKind::Alias(_) => Err(no_start(fault, token)),
-        LexemeKind::Anchor(_) => Err(no_start(fault, token)),
-        LexemeKind::Tag(_, _) => Err(no_start(fault, token)),
-        LexemeKind::Scalar(_, _) => Err(no_start(fault, token)),
+        _ => Err(no_start(fault, token)),
     }
 }
 
@@ -415,21 +377,7 @@ fn behind_root<'input>(
 {
     match &token.lexeme.kind {
         LexemeKind::DocumentEnd => Ok(end_document(state, token.span(), DocumentStage::Fresh)?),
-        LexemeKind::Version(_, _) => behind_unended(state, fault, token),
-        LexemeKind::TagPrefix(_, _) => behind_unended(state, fault, token),
-        LexemeKind::Reserved(_, _) => behind_unended(state, fault, token),
-        LexemeKind::DocumentStart => behind_unended(state, fault, token),
-        LexemeKind::StreamEnd => behind_unended(state, fault, token),
-        LexemeKind::Open(_) => behind_unended(state, fault, token),
-        LexemeKind::Close(_) => behind_unended(state, fault, token),
-        LexemeKind::Comma => behind_unended(state, fault, token),
-        LexemeKind::Dash => behind_unended(state, fault, token),
-        LexemeKind::Question => behind_unended(state, fault, token),
-        LexemeKind::Colon => behind_unended(state, fault, token),
-        LexemeKind::Alias(_) => behind_unended(state, fault, token),
-        LexemeKind::Anchor(_) => behind_unended(state, fault, token),
-        LexemeKind::Tag(_, _) => behind_unended(state, fault, token),
-        LexemeKind::Scalar(_, _) => behind_unended(state, fault, token),
+        _ => behind_unended(state, fault, token),
     }
 }
 

@@ -240,19 +240,13 @@ fn node(alloc: Global, drawing: &mut Drawing, levels: u32) -> Result<Tree, NoMem
 fn add(list: &mut TreeList, tree: Tree) -> Result<(), NoMemory>
     ensures { OnOk result (list.new ≡ AfterTrees list.old (plain_tree tree)) }
 {
-    match list.push(tree) {
-        Ok(()) => Ok(()),
-        Err(_) => Err(NoMemory),
-    }
+    list.push(tree).or(Err(NoMemory))
 }
 
 fn add_pair(list: &mut PairList, key: Tree, value: Tree) -> Result<(), NoMemory>
     ensures { OnOk result (list.new ≡ AfterPairs list.old (plain_tree key) (plain_tree value)) }
 {
-    match list.push((key, value)) {
-        Ok(()) => Ok(()),
-        Err(_) => Err(NoMemory),
-    }
+    list.push((key, value)).or(Err(NoMemory))
 }
 
 /// `size` documents that are drawn from a number, always the same from the same: each at most six collections deep,

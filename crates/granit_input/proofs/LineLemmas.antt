@@ -5,7 +5,7 @@ use Rattle.std.specs.Str.{chars}
 use Rattle.std.proofs.lemmas.Bool.Decides.{nat_tests}
 use Rattle.granit_base.specs.Place.{first}
 use Rattle.granit_input.specs.Cuts.{IsAsciiFront}
-use Rattle.granit_input.specs.Lines.{is_line_gap, is_visible, line_feeds, column_behind}
+use Rattle.granit_input.specs.Lines.{is_line_gap, is_visible, feed_count, column_behind}
 use Rattle.granit_input.specs.Runs.{run_length, starts}
 use Rattle.granit_input.proofs.AsciiLemmas.{ascii_more, first_byte}
 use Rattle.granit_input.proofs.RunLemmas.{front_whole}
@@ -13,16 +13,16 @@ use Rattle.granit_input.proofs.WhiteLemmas.{take_more, passes_some}
 
 -- ---- one character more
 
-feeds_more : (c : ℕ) (xs : List ℕ) → line_feeds (xs ++ c ∷ [])
-    ≡ (if c == 0x0A then suc (line_feeds xs) else line_feeds xs)
-unfolding line_feeds
+feeds_more : (c : ℕ) (xs : List ℕ) → feed_count (xs ++ c ∷ [])
+    ≡ (if c == 0x0A then suc (feed_count xs) else feed_count xs)
+unfolding feed_count
 feeds_more c [] = refl
 feeds_more c (x ∷ xs) = swapped (x == 0x0A) (c == 0x0A) (feeds_more c xs)
   where
-    swapped : (a b : Bool) → line_feeds (xs ++ c ∷ []) ≡ (if b then suc (line_feeds xs) else line_feeds xs)
-        → (if a then suc (line_feeds (xs ++ c ∷ [])) else line_feeds (xs ++ c ∷ []))
-        ≡ (if b then suc (if a then suc (line_feeds xs) else line_feeds xs)
-        else (if a then suc (line_feeds xs) else line_feeds xs))
+    swapped : (a b : Bool) → feed_count (xs ++ c ∷ []) ≡ (if b then suc (feed_count xs) else feed_count xs)
+        → (if a then suc (feed_count (xs ++ c ∷ [])) else feed_count (xs ++ c ∷ []))
+        ≡ (if b then suc (if a then suc (feed_count xs) else feed_count xs)
+        else (if a then suc (feed_count xs) else feed_count xs))
     swapped true true e = ap suc e
     swapped true false e = ap suc e
     swapped false true e = e
@@ -57,7 +57,7 @@ gap_byte s i so_far within is =
 -- behind a line feed
 pub record Fed (s : List ℕ) (i : ℕ) : Type 0 where
   pub front : IsAsciiFront (starts is_line_gap) s (i + 1)
-  pub lines : line_feeds (take (i + 1) (chars s)) ≡ suc (line_feeds (take i (chars s)))
+  pub lines : feed_count (take (i + 1) (chars s)) ≡ suc (feed_count (take i (chars s)))
   pub column : column_behind 0 (take (i + 1) (chars s)) ≡ 0
 
 pub fed : (s : List ℕ) (i : ℕ) → IsAsciiFront (starts is_line_gap) s i → i < length s → slice_index s i ≡ 0x0A
@@ -68,14 +68,14 @@ fed s i so_far within is =
     ∙ ap (λ (c : ℕ). take i (chars s) ++ c ∷ []) is in
     record {
       front = one.front;
-      lines = ap line_feeds more ∙ feeds_more 0x0A (take i (chars s));
+      lines = ap feed_count more ∙ feeds_more 0x0A (take i (chars s));
       column = ap (column_behind 0) more ∙ column_more 0 0x0A (take i (chars s));
     }
 
 -- behind a space
 pub record Spaced (s : List ℕ) (i : ℕ) : Type 0 where
   pub front : IsAsciiFront (starts is_line_gap) s (i + 1)
-  pub lines : line_feeds (take (i + 1) (chars s)) ≡ line_feeds (take i (chars s))
+  pub lines : feed_count (take (i + 1) (chars s)) ≡ feed_count (take i (chars s))
   pub column : column_behind 0 (take (i + 1) (chars s)) ≡ suc (column_behind 0 (take i (chars s)))
 
 pub spaced : (s : List ℕ) (i : ℕ) → IsAsciiFront (starts is_line_gap) s i → i < length s → slice_index s i ≡ 0x20
@@ -86,7 +86,7 @@ spaced s i so_far within is =
     ∙ ap (λ (c : ℕ). take i (chars s) ++ c ∷ []) is in
     record {
       front = one.front;
-      lines = ap line_feeds more ∙ feeds_more 0x20 (take i (chars s));
+      lines = ap feed_count more ∙ feeds_more 0x20 (take i (chars s));
       column = ap (column_behind 0) more ∙ column_more 0 0x20 (take i (chars s));
     }
 

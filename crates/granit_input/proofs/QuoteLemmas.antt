@@ -12,7 +12,7 @@ use Rattle.std.proofs.lemmas.Str.{is_utf8-from_IsUtf8}
 use Rattle.granit_base.specs.Place.{Unread, first}
 use Rattle.granit_input.specs.Cuts.{SpellsFront, IsAsciiFront}
 use Rattle.granit_input.specs.Origin.{PartOf}
-use Rattle.granit_input.specs.Quotes.{BeginsQuoted, IsQuoted, QuotedAt, TakesQuoted, ends_quoted, quote_of}
+use Rattle.granit_input.specs.Quotes.{BeginsQuoted, IsQuoted, QuotedAt, TakesQuoted, ends_after_quote, quote_of}
 use Rattle.granit_input.specs.Runs.{run_length, is_quoted_word}
 use Rattle.granit_input.specs.Unread.{Spells, SpelledBy, left_of, past_count, utf8_length}
 use Rattle.granit_input.proofs.AsciiLemmas.{first_byte, low_first, spells_on}
@@ -24,7 +24,7 @@ pub quote_low : (single : Bool) → (0 < quote_of single) × (quote_of single < 
 quote_low true = (omega arith, omega arith)
 quote_low false = (omega arith, omega arith)
 
-pub end_low : (in_flow : Bool) (c : ℕ) → ends_quoted in_flow c ≡ true → c < 0x80
+pub end_low : (in_flow : Bool) (c : ℕ) → ends_after_quote in_flow c ≡ true → c < 0x80
 end_low true c y = grind (arith, nat_tests, y)
 end_low false c y = grind (arith, nat_tests, y)
 
@@ -83,7 +83,7 @@ spelt_behind s inner t rest count a b opens behind bytes closes =
 pub begins_quoted : (single in_flow : Bool) (s inner rest : List ℕ) (count : ℕ) → is_utf8 s ≡ true
     → first (chars s) ≡ quote_of single → inner ≡ drop 1 s → IsAsciiFront (is_quoted_word single) inner count
     → count + 1 < length inner → slice_index inner count ≡ quote_of single
-    → ends_quoted in_flow (slice_index inner (count + 1)) ≡ true → rest ≡ drop (count + 1) inner
+    → ends_after_quote in_flow (slice_index inner (count + 1)) ≡ true → rest ≡ drop (count + 1) inner
     → BeginsQuoted single in_flow s count rest
 begins_quoted single in_flow s inner rest count utf8 is inner_is front within quote ends rest_is =
     let q = quote_of single in
@@ -112,7 +112,7 @@ begins_quoted single in_flow s inner rest count utf8 is inner_is front within qu
         is = opens.text ∙ ap (λ (r : List ℕ). q ∷ r) parts;
         words = subst (λ (r : List ℕ). length inside ≤ run_length (is_quoted_word single) r)
             (sym (ap (drop 1) opens.text)) (omega (arith, long, fits));
-        ends = ap (ends_quoted in_flow) last ∙ ends;
+        ends = ap (ends_after_quote in_flow) last ∙ ends;
       };
       counted = long;
       ascii = omega (

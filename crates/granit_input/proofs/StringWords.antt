@@ -14,7 +14,7 @@ use Rattle.granit_input.specs.Runs.{begins_word, is_plain_word, run_length, star
 use Rattle.granit_input.specs.Unread.{left_of, past_count, utf8_length}
 use Rattle.granit_input.specs.White.{is_skipped}
 use Rattle.granit_input.specs.declared.whitespace.SkipTabs.TheVariants.{No}
-use Rattle.granit_input.specs.Words.{AreWords, EndsLine, EndsWords, LendsWords, PassesLine, SplitsWords, stops_words}
+use Rattle.granit_input.specs.Words.{AreWords, EndsLine, EndsWords, LendsWords, SplitsLineEnd, SplitsWords, stops_words}
 use Rattle.granit_input.proofs.AsciiLemmas.{spells_on}
 use Rattle.granit_input.proofs.RunLemmas.{front_whole, run_within}
 use Rattle.granit_input.proofs.StringLemmas.{past_bytes}
@@ -80,7 +80,8 @@ module _ (in_flow : Bool) (source rest behind : List ℕ) (n : ℕ) (fits : leng
         ∙ past_bytes source rest behind n fits w.rest w.bytes,
   )
 
-  module _ (column spaces : ℕ) (after : List ℕ) (p : PassesLine column behind spaces after) where
+  module _ (column : Option ℕ) (spaces : ℕ) (after : List ℕ)
+      (p : SplitsLineEnd in_flow column behind spaces after) where
     pub both_bytes : SpellsFront rest (n + (1 + spaces)) after
     both_bytes = spells_on rest behind after n (1 + spaces) w.rest w.bytes p.bytes
 
@@ -89,11 +90,11 @@ module _ (in_flow : Bool) (source rest behind : List ℕ) (n : ℕ) (fits : leng
 
     -- and a line was passed with them
     pub line_ended : (u : Unread) → u ≡ left_of source rest
-        → EndsLine column spaces (drop (length source - length behind - (length source - length rest)) u.text)
+        → EndsLine in_flow column spaces (drop (length source - length behind - (length source - length rest)) u.text)
         × (past_count (length source - length behind - (length source - length rest) + (1 + spaces)) u
         ≡ left_of source after)
     line_ended u is = (
-      subst (EndsLine column spaces) (sym (text_behind u is)) p.ends,
+      subst (EndsLine in_flow column spaces) (sym (text_behind u is)) p.ends,
       ap (λ (m : ℕ). past_count (m + (1 + spaces)) u) taken_count ∙ ap (past_count (n + (1 + spaces))) is
           ∙ past_bytes source rest after (n + (1 + spaces)) fits both_text both_bytes,
     )

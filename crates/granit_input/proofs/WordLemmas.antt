@@ -1,7 +1,7 @@
 -- Words of a plain scalar in front of a text, taken as bytes.
 use Rattle.std.proofs.Common.{◌≡◌, ℕ, zero, suc, ◌+◌, ◌-◌, ◌<◌, ◌≤◌, ◌==◌, ◌&&◌, ◌||◌, not, nat_lt, Bool, true, false}
 use Rattle.std.proofs.Common.{List, [], ◌∷◌, ◌++◌, length, take, drop, slice_index, None, refl, sym, ap, ap₂, ◌∙◌}
-use Rattle.std.proofs.Common.{subst, inl, inr, arith}
+use Rattle.std.proofs.Common.{Option, subst, inl, inr, arith}
 use Rattle.std.specs.Char.{encode_utf8, is_ascii_graphic}
 use Rattle.std.specs.List.{find}
 use Rattle.std.specs.Str.{chars, encode_utf8_all, is_utf8}
@@ -17,7 +17,7 @@ use Rattle.granit_input.specs.Cuts.{SpellsFront}
 use Rattle.granit_input.specs.Runs.{is_plain_ascii}
 use Rattle.granit_input.specs.Unread.{utf8_length}
 use Rattle.granit_input.specs.White.{blanks_length}
-use Rattle.granit_input.specs.Words.{AreWords, PassesLine, ShowsByte, ShowsFront, stops_words}
+use Rattle.granit_input.specs.Words.{AreWords, EndsBelow, SplitsLineEnd, ShowsByte, ShowsFront, stops_words}
 use Rattle.granit_input.specs.declared.class.Run.{Run}
 use Rattle.granit_input.specs.declared.class.Run.TheVariants.{PlainWords}
 use Rattle.granit_input.specs.declared.whitespace.SkipTabs.TheVariants.{No}
@@ -185,10 +185,13 @@ divider_low true c is = grind (arith, nat_tests)
 divider_low false c is = grind (arith, nat_tests)
 
 -- a flow indicator, or a `:` that divides a pair, by their bytes
+pub flow_first : (s : List ℕ) → is_utf8 s ≡ true → 0 < length s → is_flow (slice_index s 0) ≡ true
+    → is_flow (first (chars s)) ≡ true
+flow_first s utf8 some is = ap is_flow (first_is s utf8 (flow_low (slice_index s 0) is) some) ∙ is
+
 pub flow_byte : (s : List ℕ) → is_utf8 s ≡ true → 0 < length s → is_flow (slice_index s 0) ≡ true
     → stops_words true (chars s) ≡ true
-flow_byte s utf8 some is =
-    flow_stops (chars s) (ap is_flow (first_is s utf8 (flow_low (slice_index s 0) is) some) ∙ is)
+flow_byte s utf8 some is = flow_stops (chars s) (flow_first s utf8 some is)
 
 pub colon_byte : (in_flow : Bool) (s : List ℕ) → is_utf8 s ≡ true → 1 < length s → slice_index s 0 ≡ 0x3A
     → ((slice_index s 1 == 0x20 || slice_index s 1 == 0x0A) || (in_flow && is_flow (slice_index s 1))) ≡ true
@@ -201,21 +204,22 @@ colon_byte in_flow s utf8 some is next =
 
 -- ---- a line behind words
 
-pub line_passed : (column spaces : ℕ) (s behind after : List ℕ) → chars s ≡ 0x0A ∷ chars behind
-    → s ≡ encode_utf8 0x0A ++ behind → spaces ≡ blanks_length No (chars behind)
+pub line_passed : (in_flow : Bool) (column : Option ℕ) (spaces : ℕ) (s behind after : List ℕ)
+    → chars s ≡ 0x0A ∷ chars behind → s ≡ encode_utf8 0x0A ++ behind → spaces ≡ blanks_length No (chars behind)
     → chars after ≡ drop spaces (chars behind) → SpellsFront behind spaces after → is_utf8 after ≡ true
-    → is_within 0x21 0x7E (first (chars after)) ≡ true → spaces ≤ column → PassesLine column s spaces after
-line_passed column spaces s behind after text bytes blanks rest spelt utf8 visible left =
+    → is_within 0x21 0x7E (first (chars after)) ≡ true → EndsBelow in_flow column spaces (first (chars after))
+    → SplitsLineEnd in_flow column s spaces after
+line_passed in_flow column spaces s behind after text bytes blanks rest spelt utf8 visible ends =
     let dropped : drop 1 (chars s) ≡ chars behind = ap (drop 1) text in
+    let there : chars after ≡ drop spaces (drop 1 (chars s)) = rest ∙ ap (drop spaces) (sym dropped) in
     record {
       ends = record {
         feed = ap first text;
         blanks = blanks ∙ ap (blanks_length No) (sym dropped);
-        visible = ap (λ (cs : List ℕ). is_within 0x21 0x7E (first (drop spaces cs))) dropped
-            ∙ ap (λ (cs : List ℕ). is_within 0x21 0x7E (first cs)) (sym rest) ∙ visible;
-        left = left;
+        visible = ap (λ (cs : List ℕ). is_within 0x21 0x7E (first cs)) (sym there) ∙ visible;
+        ends = subst (λ (cs : List ℕ). EndsBelow in_flow column spaces (first cs)) there ends;
       };
-      rest = rest ∙ ap (drop spaces) (sym dropped) ∙ drop-drop spaces 1 (chars s);
+      rest = there ∙ drop-drop spaces 1 (chars s);
       bytes = spells_on s behind after 1 spaces (sym dropped) (one_bytes s behind 0x0A text bytes) spelt;
       utf8 = utf8;
     }

@@ -15,9 +15,9 @@ abbrev pub is_visible : ℕ → Bool
 is_visible c = is_within 0x21 0x7E c
 
 -- how many line feeds a text has
-unfoldable pub line_feeds : List ℕ → ℕ
-line_feeds [] = zero
-line_feeds (c ∷ cs) = if c == 0x0A then suc (line_feeds cs) else line_feeds cs
+unfoldable pub feed_count : List ℕ → ℕ
+feed_count [] = zero
+feed_count (c ∷ cs) = if c == 0x0A then suc (feed_count cs) else feed_count cs
 
 -- the column behind a text of line feeds and spaces that begins in a column
 unfoldable pub column_behind : ℕ → List ℕ → ℕ
@@ -29,7 +29,7 @@ column_behind column (c ∷ cs) = column_behind (if c == 0x0A then zero else suc
 pub record IsLines (text : List ℕ) (count lines spaces : ℕ) : Type 0 where
   pub begins : first text ≡ 0x0A
   pub whole : count ≡ run_length (starts is_line_gap) text
-  pub feeds : lines ≡ line_feeds (take count text)
+  pub feeds : lines ≡ feed_count (take count text)
   pub column : spaces ≡ column_behind 0 (take count text)
 
 -- how many characters were taken

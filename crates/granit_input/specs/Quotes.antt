@@ -12,8 +12,8 @@ abbrev pub quote_of : Bool → ℕ
 quote_of single = if single then 0x27 else 0x22
 
 -- what may stand directly behind the closing quote: `:`, a line feed, and in flow `,`, `]` and `}`
-abbrev pub ends_quoted : Bool → ℕ → Bool
-ends_quoted in_flow c = (c == 0x3A || c == 0x0A) || (in_flow && (c == 0x2C || (c == 0x5D || c == 0x7D)))
+abbrev pub ends_after_quote : Bool → ℕ → Bool
+ends_after_quote in_flow c = (c == 0x3A || c == 0x0A) || (in_flow && (c == 0x2C || (c == 0x5D || c == 0x7D)))
 
 -- a quoted scalar stands in front: between its quotes words of characters that mean themselves, and directly behind
 -- them what may
@@ -21,7 +21,7 @@ pub record IsQuoted (single in_flow : Bool) (text inside : List ℕ) : Type 0 wh
   pub behind : List ℕ
   pub is : text ≡ quote_of single ∷ (inside ++ quote_of single ∷ behind)
   pub words : length inside ≤ run_length (is_quoted_word single) (drop 1 text)
-  pub ends : ends_quoted in_flow (first behind) ≡ true
+  pub ends : ends_after_quote in_flow (first behind) ≡ true
 
 -- the same, and between these two bytes the source lends what stands between its quotes, a byte for each character
 pub record QuotedAt (single in_flow : Bool) (u : Unread) (inside : List ℕ) (start end : ℕ) : Type 0 where

@@ -27,12 +27,19 @@ ShowsFront run bytes count = (k : ℕ) → k < count → ShowsByte run (slice_in
 abbrev pub stops_words : (in_flow : Bool) → List ℕ → Bool
 stops_words in_flow text = (first text == 0x3A || is_flow (first text)) && not (is_content in_flow text)
 
--- a line feed, and behind it so many spaces up to a visible character of ASCII, which is no further right than a column
-pub record EndsLine (column spaces : ℕ) (text : List ℕ) : Type 0 where
+-- what surely ends a plain scalar above it, behind so many spaces of its line: a flow indicator in flow, and elsewhere
+-- what is no further right than the column of a block
+abbrev pub EndsBelow : (in_flow : Bool) → (column : Option ℕ) → (spaces c : ℕ) → Type 0
+EndsBelow true column spaces c = is_flow c ≡ true
+EndsBelow false None spaces c = ⊥
+EndsBelow false (Some n) spaces c = spaces ≤ n
+
+-- a line feed, and behind it so many spaces up to a visible character of ASCII, which ends a plain scalar above it
+pub record EndsLine (in_flow : Bool) (column : Option ℕ) (spaces : ℕ) (text : List ℕ) : Type 0 where
   pub feed : first text ≡ 0x0A
   pub blanks : spaces ≡ blanks_length No (drop 1 text)
   pub visible : is_within 0x21 0x7E (first (drop spaces (drop 1 text))) ≡ true
-  pub left : spaces ≤ column
+  pub ends : EndsBelow in_flow column spaces (first (drop spaces (drop 1 text)))
 
 -- so many characters in front are printable, of one byte each, and more than a lone `-`
 pub record AreWords (text : List ℕ) (count : ℕ) : Type 0 where
@@ -50,8 +57,9 @@ pub record SplitsWords (in_flow : Bool) (text : List ℕ) (count : ℕ) (behind 
   pub utf8 : is_utf8 behind ≡ true
 
 -- the end of a line in front of a text, and what stands behind that and its spaces
-pub record PassesLine (column : ℕ) (text : List ℕ) (spaces : ℕ) (behind : List ℕ) : Type 0 where
-  pub ends : EndsLine column spaces (chars text)
+pub record SplitsLineEnd (in_flow : Bool) (column : Option ℕ) (text : List ℕ) (spaces : ℕ) (behind : List ℕ) : Type
+    0 where
+  pub ends : EndsLine in_flow column spaces (chars text)
   pub rest : chars behind ≡ drop (1 + spaces) (chars text)
   pub bytes : SpellsFront text (1 + spaces) behind
   pub utf8 : is_utf8 behind ≡ true
@@ -63,14 +71,13 @@ pub record LendsWords (in_flow : Bool) (u : Unread) (start end : ℕ) : Type 0 w
   pub offset : u.offset ≡ Some start
   pub lends : u.lends ≡ true
 
--- what ends them, and where that leaves: what stops them, or a line feed in a block, which is passed with its spaces
+-- what ends them, and where that leaves: what stops them, or a line feed, which is passed with the spaces behind it
 abbrev pub EndsWords : (in_flow : Bool) → (column : Option ℕ) → Unread → (count : ℕ) → (spaces : Option ℕ)
     → (Unread → Type 0) → Type 0
 EndsWords in_flow column u count None Lands =
     (stops_words in_flow (drop count u.text) ≡ true) × Lands (past_count count u)
 EndsWords in_flow column u count (Some spaces) Lands =
-    (in_flow ≡ false) × ((n : ℕ) × (column ≡ Some n) × EndsLine n spaces (drop count u.text))
-    × Lands (past_count (count + (1 + spaces)) u)
+    EndsLine in_flow column spaces (drop count u.text) × Lands (past_count (count + (1 + spaces)) u)
 
 -- words were taken so, or nothing
 abbrev pub TakesPlain : (in_flow : Bool) → (column : Option ℕ) → Unread → Option (ℕ × ℕ × Option ℕ)

@@ -159,10 +159,10 @@ pub trait Input: Drop {
 
     /// Where in the source that lends lie the words of a plain scalar that begin here, from which byte to which, where
     /// it is seen at once that the scalar ends behind them: all words that stand here, of printable ASCII, behind which
-    /// stands a `:` or a flow indicator that ends it, or outside flow a line feed whose next line begins with a visible
-    /// character of ASCII no further right than `column` (YAML 1.2.2, 6.1 and 7.3.3). They are consumed, and so are
-    /// that line feed and the spaces behind it, which are counted then. None says nothing of what stands here, and then
-    /// nothing is consumed; an input may always answer that.
+    /// stands a `:` or a flow indicator that ends it, or a line feed whose next line begins with a flow indicator in
+    /// flow, or outside flow with a visible character of ASCII no further right than `column` (YAML 1.2.2, 6.1 and
+    /// 7.3.3). They are consumed, and so are that line feed and the spaces behind it, which are counted then. None says
+    /// nothing of what stands here, and then nothing is consumed; an input may always answer that.
     fn take_plain(
         &mut self,
         in_flow: bool,

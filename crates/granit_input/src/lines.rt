@@ -3,7 +3,7 @@ ghost use Rattle.std.specs.Prelude.{◌≡◌, ◌≤◌, ◌+◌, true, IfSome,
 ghost use Rattle.std.specs.Str.{chars, is_utf8};
 ghost use Rattle.granit_base.specs.Place.{first};
 ghost use Rattle.granit_input.specs.Cuts.{IsAsciiFront, SpellsFront};
-ghost use Rattle.granit_input.specs.Lines.{IsLines, is_line_gap, is_visible, line_feeds, column_behind};
+ghost use Rattle.granit_input.specs.Lines.{IsLines, is_line_gap, is_visible, feed_count, column_behind};
 ghost use Rattle.granit_input.specs.Runs.{starts};
 
 /// How many line feeds and spaces stand in front of a visible character of ASCII, a line feed first, how many of them
@@ -48,7 +48,7 @@ pub(crate) fn behind_lines(s: &str, count: usize) -> &str
 fn spaces_at(s: &str, from: usize) -> usize
     requires { IsAsciiFront (starts is_line_gap) s.now from }
     ensures front { IsAsciiFront (starts is_line_gap) s.now (from + result) }
-    ensures lines { line_feeds (take (from + result) (chars s.now)) ≡ line_feeds (take from (chars s.now)) }
+    ensures lines { feed_count (take (from + result) (chars s.now)) ≡ feed_count (take from (chars s.now)) }
     ensures spaces { column_behind 0 (take (from + result) (chars s.now))
         ≡ column_behind 0 (take from (chars s.now)) + result }
 {

@@ -29,16 +29,16 @@ fn closes(bytes: &[u8], count: usize, single: bool, in_flow: bool) -> bool
     requires { count ≤ length bytes.now }
     ensures within { result ≡ true → count + 1 < length bytes.now }
     ensures quote { result ≡ true → slice_index bytes.now count ≡ quote_of single }
-    ensures ends { result ≡ true → spec.ends_quoted in_flow (slice_index bytes.now (count + 1)) ≡ true }
+    ensures ends { result ≡ true → spec.ends_after_quote in_flow (slice_index bytes.now (count + 1)) ≡ true }
 {
     let quote = if single { b'\'' } else { b'"' };
-    count + 1 < bytes.len() && bytes[count] == quote && ends_quoted(bytes[count + 1], in_flow)
+    count + 1 < bytes.len() && bytes[count] == quote && ends_after_quote(bytes[count + 1], in_flow)
 }
 
 /// Whether a byte directly behind the closing quote ends the scalar, whatever follows it.
 #[inline(always)]
-fn ends_quoted(byte: u8, in_flow: bool) -> bool
-    ensures { result ≡ spec.ends_quoted in_flow byte }
+fn ends_after_quote(byte: u8, in_flow: bool) -> bool
+    ensures { result ≡ spec.ends_after_quote in_flow byte }
 {
     byte == b':' || byte == b'\n' || in_flow && (byte == b',' || (byte == b']' || byte == b'}'))
 }

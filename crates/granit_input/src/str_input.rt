@@ -260,10 +260,7 @@ impl<'a> Input for StrInput<'a> {
             self.rest = behind;
             return Some((start, end, None));
         }
-        if in_flow {
-            return None;
-        }
-        let (spaces, after) = past_line(behind, column?)?;
+        let (spaces, after) = past_line(behind, in_flow, column)?;
         self.rest = after;
         Some((start, end, Some(spaces)))
     }

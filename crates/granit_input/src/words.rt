@@ -4,7 +4,7 @@ ghost use Rattle.std.specs.Char.{encode_utf8};
 ghost use Rattle.std.specs.Str.{chars};
 ghost use Rattle.granit_base.specs.Classes.{is_flow, is_within};
 ghost use Rattle.granit_base.specs.Place.{first};
-ghost use Rattle.granit_input.specs.Words.{PassesLine, SplitsWords, stops_words};
+ghost use Rattle.granit_input.specs.Words.{EndsBelow, SplitsLineEnd, SplitsWords, stops_words};
 
 use crate::class::Run;
 use crate::cuts::{ascii_count, past_white};
@@ -65,19 +65,43 @@ fn divides(next: u8, in_flow: bool) -> bool
 }
 
 /// How many spaces stand behind the line feed in front, and what follows them, where that is a visible character of
-/// ASCII no further right than a column.
+/// ASCII that ends a plain scalar above it, in flow or in a block of that column.
 #[inline(always)]
-pub(crate) fn past_line(s: &str, column: usize) -> Option<(usize, &str)>
-    ensures { IfSome result (λ r. PassesLine column s.now r.0 r.1.now) }
+pub(crate) fn past_line(s: &str, in_flow: bool, column: Option<usize>) -> Option<(usize, &str)>
+    ensures { IfSome result (λ r. SplitsLineEnd in_flow column s.now r.0 r.1.now) }
 {
     if !begins_with_feed(s) {
         return None;
     }
     let (spaces, _, after) = past_white(behind_byte(s), SkipTabs::No);
-    if spaces > column || !shows(after) {
+    if !shows(after) || !ends_below(after, in_flow, column, spaces) {
         return None;
     }
     Some((spaces, after))
+}
+
+/// Whether what stands in front behind so many spaces of a line ends a plain scalar above it: a flow indicator in flow,
+/// or elsewhere what stands no further right than a column.
+#[inline(always)]
+fn ends_below(s: &str, in_flow: bool, column: Option<usize>, spaces: usize) -> bool
+    ensures { result ≡ true → EndsBelow in_flow column spaces (first (chars s.now)) }
+{
+    if in_flow {
+        return begins_with_flow(s);
+    }
+    match column {
+        None => false,
+        Some(column) => spaces <= column,
+    }
+}
+
+/// Whether a flow indicator stands in front.
+#[inline(always)]
+fn begins_with_flow(s: &str) -> bool
+    ensures { result ≡ true → is_flow (first (chars s.now)) ≡ true }
+{
+    let bytes = s.as_bytes();
+    bytes.len() > 0 && is_flow(bytes[0] as char)
 }
 
 /// Whether a line feed stands in front.

@@ -1,4 +1,6 @@
 //! Parsers that lie on one another.
+//!
+//! Where much may go it is dropped by a call: in place, proofs write out each way for each kind of event and error.
 ghost use mir.Syntax.{named};
 ghost use Rattle.std.specs.Prelude.{◌≡◌, [], ◌∷◌, ◌++◌, false, None, Some, OnOk, OnErr, IfOk, IfErr, IsOk};
 ghost use Rattle.std.specs.Str.{chars};
@@ -187,10 +189,14 @@ impl<'input, S: StackedParser<'input>> Layers<'input, S> {
         ensures { self.new ≡ gives_first self.old event.entry }
     {
         if self.is_ending() {
-            return;
+            return drop(event);
         }
-        let comes = self.emits_comments || part_of(&event.0) != Part::Comment;
-        self.peeked = if comes { Some(Ok(event)) } else { None };
+        if self.emits_comments || part_of(&event.0) != Part::Comment {
+            drop(self.peeked.replace(Ok(event)));
+        } else {
+            drop(event);
+            drop(self.peeked.take());
+        }
     }
 
     /// Whether the stack ended, or is seen to end.
@@ -247,10 +253,10 @@ impl<'input, S: StackedParser<'input>> Layers<'input, S> {
         ensures same { self.new ≡ record self.old { end = self.new.end } }
     {
         match next {
-            Err(error) => self.end = Some(Err(kept(self.alloc, error))),
+            Err(error) => drop(self.end.replace(Err(kept(self.alloc, error)))),
             Ok((event, _)) => {
                 if part_of(event) == Part::StreamEnd {
-                    self.end = Some(Ok(()));
+                    drop(self.end.replace(Ok(())));
                 }
             }
         }

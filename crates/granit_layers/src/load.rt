@@ -101,8 +101,8 @@ impl<'input, S: StackedParser<'input>> Layers<'input, S> {
     fn run_out(&mut self) -> ScanError
         ensures { RunsOut self.old result self.new }
     {
-        self.peeked = None;
-        self.end = Some(Err(ScanError::from(NoMemory)));
+        drop(self.peeked.take());
+        drop(self.end.replace(Err(ScanError::from(NoMemory))));
         ScanError::from(NoMemory)
     }
 }

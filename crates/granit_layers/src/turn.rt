@@ -57,6 +57,13 @@ pub fn bare_end<'input>() -> (Event<'input>, Span)
     (Event::StreamEnd, Span::empty(Marker::new(0, 1, 0)))
 }
 
+/// What comes of an event that isn't given: here alone it is dropped.
+fn without<'input>(turn: Turn<'input>, _event: (Event<'input>, Span)) -> Turn<'input>
+    ensures { result ≡ turn.entry }
+{
+    turn
+}
+
 /// What comes of an event.
 fn turn_on<'input>(
     is_bottom: bool,
@@ -70,15 +77,17 @@ fn turn_on<'input>(
     let part = part_of(&event.0);
     match (part, ended) {
         (Part::StreamEnd, _) if is_bottom => Turn::Ends(event),
-        (Part::StreamEnd, _) => Turn::Leaves,
+        (Part::StreamEnd, _) => without(Turn::Leaves, event),
         (Part::Comment, _) if emits_comments => Turn::Gives(event),
-        (Part::Comment, ended) => Turn::Withholds(ended),
+        (Part::Comment, ended) => without(Turn::Withholds(ended), event),
         (_, Some(end)) => {
             let kind = ErrorKind::MultipleDocumentsUnsupported;
-            Turn::Fails(ScanError::from_kind(end.start, kind))
+            without(Turn::Fails(ScanError::from_kind(end.start, kind)), event)
         }
-        (Part::Start, None) if !is_bottom => Turn::Withholds(None),
-        (Part::DocumentEnd, None) if !is_bottom => Turn::Withholds(Some(event.1)),
+        (Part::Start, None) if !is_bottom => without(Turn::Withholds(None), event),
+        (Part::DocumentEnd, None) if !is_bottom => {
+            without(Turn::Withholds(Some(event.1)), event)
+        }
         (_, None) => Turn::Gives(event),
     }
 }

@@ -1,4 +1,5 @@
 //! Parsers that lie on one another.
+use crate::agree::agree;
 use crate::letters::{Events, at, event, given, own, prints, push};
 use granit_base::Span;
 use granit_error::ScanError;
@@ -80,9 +81,9 @@ fn nested(alloc: Global, emits_comments: bool) -> ([bool; 2], [char; 10], usize)
 #[test]
 fn a_document_on_another(rt: HostRuntime) {
     let wanted = ['#', 'S', 'D', 'x', 'd', '#', 's', '.', '.', 'y'];
-    assert_eq!(rt; nested(rt.alloc(), true), ([true; 2], wanted, 10));
+    agree(&rt, nested(rt.alloc(), true), ([true; 2], wanted, 10));
     let wanted = ['S', 'D', 'x', 'd', 's', '.', '.', '.', '.', 'y'];
-    assert_eq!(rt; nested(rt.alloc(), false), ([true; 2], wanted, 10));
+    agree(&rt, nested(rt.alloc(), false), ([true; 2], wanted, 10));
 }
 
 /// Whether what is given is a refusal that prints these words.
@@ -116,7 +117,11 @@ fn second_document(alloc: Global, words: &str) -> ([char; 3], bool) {
 fn a_second_document(rt: HostRuntime) {
     let words =
         "multiple documents not supported here\nwhile parsing x -> two at char 2 line 1 column 3";
-    assert_eq!(rt; second_document(rt.alloc(), words), (['t', '#', '.'], true));
+    agree(
+        &rt,
+        second_document(rt.alloc(), words),
+        (['t', '#', '.'], true),
+    );
 }
 
 /// Four replays on one stack.
@@ -182,7 +187,7 @@ fn looked_at(alloc: Global) -> ([bool; 3], char, [char; 5]) {
 #[test]
 fn what_was_looked_at(rt: HostRuntime) {
     let want = ([true; 3], 'S', ['e', 'c', '#', '#', 'D']);
-    assert_eq!(rt; looked_at(rt.alloc()), want);
+    agree(&rt, looked_at(rt.alloc()), want);
 }
 
 /// Nothing lies there: the stream ends, and a later push changes nothing.
@@ -205,7 +210,7 @@ fn nothing(alloc: Global) -> (bool, [char; 3]) {
 
 #[test]
 fn no_parsers(rt: HostRuntime) {
-    assert_eq!(rt; nothing(rt.alloc()), (true, ['s', '.', '.']));
+    agree(&rt, nothing(rt.alloc()), (true, ['s', '.', '.']));
 }
 
 /// How many events came.
@@ -276,5 +281,9 @@ fn sent(alloc: Global) -> (char, [(bool, usize); 3]) {
 
 #[test]
 fn sent_to_a_receiver(rt: HostRuntime) {
-    assert_eq!(rt; sent(rt.alloc()), ('!', [(true, 1), (true, 3), (true, 3)]));
+    agree(
+        &rt,
+        sent(rt.alloc()),
+        ('!', [(true, 1), (true, 3), (true, 3)]),
+    );
 }

@@ -1,4 +1,5 @@
 //! Events that are given once more.
+use crate::agree::agree;
 use crate::letters::{Row, events_of, given, letter};
 use granit_base::Span;
 use granit_error::ScanError;
@@ -101,7 +102,7 @@ fn the_list_in_order(rt: HostRuntime) {
         nothing,
         nothing,
     ];
-    assert_eq!(rt; in_order(rt.alloc()), wanted);
+    agree(&rt, in_order(rt.alloc()), wanted);
 }
 
 /// How many documents end among what is given.
@@ -118,7 +119,7 @@ fn ends_of_documents(replay: ReplayParser<'_>) -> usize {
 #[test]
 fn as_an_iterator(rt: HostRuntime) {
     let documents = ends_of_documents(parser(rt.alloc(), &DOCUMENTS, 1));
-    assert_eq!(rt; documents, 3);
+    agree(&rt, documents, 3);
 }
 
 /// The number of the next anchor behind one more event.
@@ -164,8 +165,8 @@ fn number_kept(alloc: Global) -> usize {
 
 #[test]
 fn numbers_of_anchors(rt: HostRuntime) {
-    assert_eq!(rt; numbers(rt.alloc()), [0, 4, 4, 8, usize::MAX, 5]);
-    assert_eq!(rt; number_kept(rt.alloc()), 9);
+    agree(&rt, numbers(rt.alloc()), [0, 4, 4, 8, usize::MAX, 5]);
+    agree(&rt, number_kept(rt.alloc()), 9);
 }
 
 /// Whether `load` answers Ok, how many events came by then, and where the last one ends.
@@ -197,7 +198,7 @@ fn loads(alloc: Global) -> [(bool, usize, usize); 3] {
 #[test]
 fn one_document_or_all(rt: HostRuntime) {
     let wanted = [(true, 4, 2), (true, 11, 9), (true, 11, 9)];
-    assert_eq!(rt; loads(rt.alloc()), wanted);
+    agree(&rt, loads(rt.alloc()), wanted);
 }
 
 /// The letter of what `try_load` answers: `.` is Ok, `p` the parser's refusal, and else the receiver's.
@@ -236,5 +237,5 @@ fn tries(alloc: Global) -> [(char, usize); 5] {
 #[test]
 fn refused_by_the_receiver(rt: HostRuntime) {
     let wanted = [('!', 2), ('d', 5), ('.', 3), ('s', 9), ('.', 3)];
-    assert_eq!(rt; tries(rt.alloc()), wanted);
+    agree(&rt, tries(rt.alloc()), wanted);
 }

@@ -1,4 +1,5 @@
 //! Who finds includes, and an iterator that gives no characters.
+use crate::agree::agree;
 use crate::letters::{own, prints};
 use granit_base::{Marker, OwnedText};
 use granit_buffered::BufferedInput;
@@ -34,7 +35,11 @@ fn answers<'input, R: Resolver<'input>>(
 #[test]
 fn no_includes_are_found(rt: HostRuntime) {
     let words = "No include resolver set for parser stack. at char 0 line 1 column 1";
-    assert!(rt; answers(&mut NoResolver, rt.alloc(), "a.yaml", words));
+    agree(
+        &rt,
+        answers(&mut NoResolver, rt.alloc(), "a.yaml", words),
+        true,
+    );
 }
 
 /// A place at the start.
@@ -81,7 +86,7 @@ fn told_of_closure(alloc: Global) -> [bool; 3] {
 
 #[test]
 fn a_closure_finds_them(rt: HostRuntime) {
-    assert_eq!(rt; told_of_closure(rt.alloc()), [true; 3]);
+    agree(&rt, told_of_closure(rt.alloc()), [true; 3]);
 }
 
 /// Whether the end is next.
@@ -98,7 +103,7 @@ fn is_at_end(alloc: Global) -> Option<bool> {
 
 #[test]
 fn no_characters_come(rt: HostRuntime) {
-    assert_eq!(rt; is_at_end(rt.alloc()), Some(true));
+    agree(&rt, is_at_end(rt.alloc()), Some(true));
 }
 
 /// The parser that comes back, and whether its name does.
@@ -109,5 +114,5 @@ fn told_of_refused(name: OwnedText) -> (u8, bool) {
 
 #[test]
 fn what_is_refused_comes_back(rt: HostRuntime) {
-    assert_eq!(rt; told_of_refused(own(rt.alloc(), "root")), (7, true));
+    agree(&rt, told_of_refused(own(rt.alloc(), "root")), (7, true));
 }

@@ -6,7 +6,7 @@ use Rattle.std.proofs.Math.Seq.{take-append_seam}
 use Rattle.granit_base.specs.Classes.{is_blank, is_break, is_gap, is_printable}
 use Rattle.granit_base.specs.Place.{Mark, Place, first}
 use Rattle.granit_base.specs.Written.{Written}
-use Rattle.granit_input.specs.Quotes.{IsQuoted, ends_quoted, quote_of}
+use Rattle.granit_input.specs.Quotes.{IsQuoted, ends_after_quote, quote_of}
 use Rattle.granit_input.specs.Runs.{run_length, starts, is_quoted_word}
 use Rattle.granit_lexemes.specs.Here.{Here, next_char, mark_of, step}
 use Rattle.granit_lexemes.specs.LayoutData.{LayoutData}
@@ -26,11 +26,11 @@ unfolding run_length is_blank is_break is_gap is_printable is_literal
 quote_stops true behind = refl
 quote_stops false behind = refl
 
-no_quote : (in_flow : Bool) (c : ℕ) → ends_quoted in_flow c ≡ true → (c == 0x27) ≡ false
+no_quote : (in_flow : Bool) (c : ℕ) → ends_after_quote in_flow c ≡ true → (c == 0x27) ≡ false
 no_quote true c y = grind (arith, nat_tests, y)
 no_quote false c y = grind (arith, nat_tests, y)
 
-closes : (single in_flow : Bool) (behind : List ℕ) → ends_quoted in_flow (first behind) ≡ true
+closes : (single in_flow : Bool) (behind : List ℕ) → ends_after_quote in_flow (first behind) ≡ true
     → is_closing single (quote_of single ∷ behind) ≡ true
 unfolding is_closing
 closes true in_flow behind y = ap not (no_quote in_flow (first behind) y)
@@ -45,7 +45,7 @@ record Ends (at : LayoutData) (c : ℕ) : Type 0 where
   prints : is_printable c ≡ true
   trails : may_trail at true c ≡ true
 
-ends : (at : LayoutData) (in_flow : Bool) (c : ℕ) → at.in_flow ≡ in_flow → ends_quoted in_flow c ≡ true → Ends at c
+ends : (at : LayoutData) (in_flow : Bool) (c : ℕ) → at.in_flow ≡ in_flow → ends_after_quote in_flow c ≡ true → Ends at c
 unfolding is_blank is_break is_printable may_trail
 ends at true c flow y = record {
   some = grind (arith, nat_tests, y);

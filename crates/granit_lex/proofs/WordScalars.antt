@@ -1,7 +1,7 @@
 -- A plain scalar of one line of words, whose end is seen at once.
 use Rattle.std.proofs.Common.{◌≡◌, ℕ, zero, suc, ◌+◌, ◌<◌, ◌≤◌, ◌==◌, Bool, true, false, not, ◌&&◌, ◌||◌, List, []}
 use Rattle.std.proofs.Common.{◌∷◌, length, take, drop, slice_index, Option, Some, None, Result, Ok, refl, sym, ap, ◌∙◌}
-use Rattle.std.proofs.Common.{inl, inr, subst, arith, zero-add}
+use Rattle.std.proofs.Common.{◌⊎◌, inl, inr, subst, arith, zero-add}
 use Rattle.std.proofs.Math.Bool.{and-false, or-true}
 use Rattle.std.proofs.lemmas.Bool.{and_parts, cases_Bool, eqb-true, or_parts}
 use Rattle.std.proofs.lemmas.Bool.Decides.{nat_tests}
@@ -12,6 +12,7 @@ use Rattle.granit_base.specs.Place.{Mark, Place, ends_line, first}
 use Rattle.granit_base.specs.PlainContent.{is_content}
 use Rattle.granit_base.specs.Written.{lent}
 use Rattle.granit_input.specs.Runs.{begins_word, is_plain_word, run_length, starts}
+use Rattle.granit_input.specs.Words.{EndsBelow}
 use Rattle.granit_lexemes.specs.Basics.{past_break, unprintable}
 use Rattle.granit_lexemes.specs.Here.{Here, next_char, mark_of, step}
 use Rattle.granit_lexemes.specs.LayoutData.{LayoutData, is_left, is_outside}
@@ -19,8 +20,8 @@ use Rattle.granit_lexemes.specs.Moves.{steps}
 use Rattle.granit_lexemes.specs.Outcome.{Fault, ◌>>=◌}
 use Rattle.granit_lexemes.specs.Pieces.{with_front}
 use Rattle.granit_lexemes.specs.PlainExtent.{is_flow_dash}
-use Rattle.granit_lexemes.specs.PlainScalar.{PlainRead, PlainState, is_one_line, on_blank, plain_len, plain_scalar}
-use Rattle.granit_lexemes.specs.PlainScalar.{plain_start, plain_turn}
+use Rattle.granit_lexemes.specs.PlainScalar.{PlainRead, PlainState, ends_before_line, is_one_line, on_blank, plain_len}
+use Rattle.granit_lexemes.specs.PlainScalar.{plain_scalar, plain_start, plain_turn}
 use Rattle.granit_lexemes.proofs.HereLemmas.{step_text}
 use Rattle.granit_lexemes.proofs.PieceLemmas.{with_front-nil, pieces_more, pieces_done}
 use Rattle.granit_scalars.proofs.Comments.{steps_text}
@@ -184,6 +185,18 @@ outside_ends at start end h v left =
     pieces_done plain_len (plain_turn at start) (broken_state end h) (broken_state end h)
     (rw (v.blank, v.breaks, and-false (next_char h == 0x23), left, or-true (next_char h == 0x23)) refl)
 
+-- and where it is no content
+alone_ends : (at : LayoutData) (start end : Mark) (h : Here) → Visible (next_char h)
+    → is_content at.in_flow h.unread.text ≡ false
+    → plain_rest at start (broken_state end h) ≡ Ok ([], broken_state end h)
+unfolding plain_turn
+alone_ends at start end h v alone =
+    pieces_done plain_len (plain_turn at start) (broken_state end h) (broken_state end h)
+    (elim (cases_Bool (ends_before_line at h)) [
+      | inl before ↦ rw (v.blank, v.breaks, and-false (next_char h == 0x23), before) refl
+      | inr more ↦ rw (v.blank, v.breaks, and-false (next_char h == 0x23), more, alone) refl
+    ])
+
 feed_breaks : (h : Here) → next_char h ≡ 0x0A → is_break (next_char h) ≡ true
 unfolding is_break
 feed_breaks h is = rw is refl
@@ -207,16 +220,24 @@ feed_column h is = rw (feed_some h.unread.text is, is) refl
 equal_is : (a b : ℕ) → a ≡ b → (a == b) ≡ true
 equal_is a b is = grind (arith, nat_tests, is)
 
-left_is : (block : Option ℕ) (n column : ℕ) → block ≡ Some n → column ≤ n → is_left block column ≡ true
-left_is block n column is within = rw is (grind (arith, nat_tests, within))
+left_is : (n column : ℕ) → column ≤ n → is_left (Some n) column ≡ true
+left_is n column within = grind (arith, nat_tests, within)
+
+-- what ends it there stands left of its block, or is no content
+below_ends : (in_flow strict : Bool) (block : Option ℕ) (spaces : ℕ) (text : List ℕ)
+    → EndsBelow in_flow block spaces (first text)
+    → (((not in_flow || strict) && is_left block spaces) ≡ true) ⊎ (is_content in_flow text ≡ false)
+below_ends true strict block spaces text flow = inr (or_parts _ _ (flow_no_word text flow)).0
+below_ends false strict None spaces text none = absurd none
+below_ends false strict (Some n) spaces text left = inl (left_is n spaces left)
 
 module _ (at : LayoutData) (h : Here) (n : ℕ) (some : 0 < n)
     (whole : n ≡ run_length (is_plain_word at.in_flow) h.unread.text)
     (lends : h.unread.lends ≡ true) (dash : is_flow_dash at h.unread.text ≡ false)
     (printable : unprintable (take n h.unread.text) ≡ None) (feed : next_char (steps n h) ≡ 0x0A)
-    (column spaces : ℕ) (block : at.block_column ≡ Some column) (in_block : at.in_flow ≡ false)
-    (blanks : spaces ≡ run_length (starts is_space) (step (steps n h)).unread.text) (left : spaces ≤ column)
-    (shown : is_within 0x21 0x7E (next_char (steps spaces (step (steps n h)))) ≡ true) where
+    (spaces : ℕ) (blanks : spaces ≡ run_length (starts is_space) (step (steps n h)).unread.text)
+    (shown : is_within 0x21 0x7E (next_char (steps spaces (step (steps n h)))) ≡ true)
+    (below : EndsBelow at.in_flow at.block_column spaces (next_char (steps spaces (step (steps n h))))) where
   abbrev now : Here
   now = steps spaces (step (steps n h))
 
@@ -234,20 +255,29 @@ module _ (at : LayoutData) (h : Here) (n : ℕ) (some : 0 < n)
       ap (λ (p : Place). p.column) indent.place
       ∙ ap (λ (c : ℕ). c + spaces) (feed_column (steps n h) feed) ∙ zero-add spaces
 
-  outside : is_outside at now.place.column ≡ true
-  outside = rw (in_block, now_column) (left_is at.block_column column spaces block left)
+  ends : (is_outside at now.place.column ≡ true) ⊎ (is_content at.in_flow now.unread.text ≡ false)
+  ends = subst (λ (c : ℕ). (is_outside at c ≡ true) ⊎ (is_content at.in_flow now.unread.text ≡ false))
+      (sym now_column) (below_ends at.in_flow at.strict at.block_column spaces now.unread.text below)
+
+  over : plain_rest at (mark_of h) (broken_state end now) ≡ Ok ([], broken_state end now)
+  over =
+      let v = visible_is (next_char now) shown in
+      elim ends [
+        | inl left ↦ outside_ends at (mark_of h) end now v left
+        | inr alone ↦ alone_ends at (mark_of h) end now v alone
+      ]
 
   further : plain_rest at (mark_of h) (broken_state end (past_break (steps n h))) ≡ Ok ([], broken_state end now)
   further =
       ap (λ (g : Here). plain_rest at (mark_of h) (broken_state end g)) (past_feed (steps n h) feed)
       ∙ indent_run at (mark_of h) end spaces (step (steps n h)) (omega (arith, blanks))
-      ∙ outside_ends at (mark_of h) end now (visible_is (next_char now) shown) outside
+      ∙ over
 
   same_line : is_one_line (mark_of h) end ≡ true
   same_line = equal_is h.place.line end.place.line
       (sym (ap (λ (p : Place). p.line) (along at h n some whole lends dash printable).place))
 
-  -- the next line ends it, as it begins left of its block
+  -- the next line ends it, as it begins left of its block, or in flow with a flow indicator
   pub words_and_line : plain_scalar at h ≡ Ok (words_read h n true, now)
   words_and_line =
       by_line at h n some whole lends dash printable (feed_solid (steps n h) feed)

@@ -1,4 +1,5 @@
 pub mod HexLemmas
-pub mod PlaceLemmas
+pub mod NumberLemmas
 pub mod PushLemmas
 pub mod QuotingLemmas
+pub mod RoomLemmas

@@ -218,7 +218,7 @@ fn push_comment(out: &mut Vec<u8>, text: &Text, placement: Placement) -> Result<
 }
 
 /// An event without its span.
-fn push_event(out: &mut Vec<u8>, event: &Event) -> Result<(), NoMemory>
+pub fn push_event(out: &mut Vec<u8>, event: &Event) -> Result<(), NoMemory>
     ensures { OnOk result (out.new.items ≡ out.old.items ++ line.event_words (event_kind event.now)) }
 {
     match event {

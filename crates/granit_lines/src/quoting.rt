@@ -6,7 +6,6 @@ ghost use Rattle.std.specs.Str.{chars};
 ghost use Rattle.granit_lexemes.specs.Line as line;
 ghost use Rattle.granit_lines.specs.Pieces.{is_plain};
 
-use crate::places::push_behind;
 use granit_base::{NoMemory, is_at_end, split_first_char};
 
 /// A text in its quotes.
@@ -67,7 +66,7 @@ static PLAIN: [u8; 256] = *b"000000000000000000000000000000001101111111111111111
     0000000000000000000000000000000000000000000000000000000000000000\
     0000000000000000000000000000000000000000000000000000000000000000";
 
-fn is_plain_byte(byte: u8) -> bool
+pub fn is_plain_byte(byte: u8) -> bool
     ensures { result ≡ is_plain byte }
 {
     PLAIN[byte as usize] == b'1'
@@ -94,6 +93,15 @@ fn push_quoted_char(out: &mut Vec<u8>, c: char) -> Result<(), NoMemory>
             out.push(b'}')?;
         }
     }
+    Ok(())
+}
+
+/// The bytes that stand behind so many.
+fn push_behind(out: &mut Vec<u8>, bytes: &[u8], count: usize) -> Result<(), NoMemory>
+    requires { count ≤ length bytes.now }
+    ensures { OnOk result (out.new.items ≡ out.old.items ++ drop count bytes.now) }
+{
+    out.extend_from_slice(&bytes[count..])?;
     Ok(())
 }
 

@@ -1,6 +1,6 @@
 -- What the calls give of an iterator's characters is the run of their text, without byte offsets.
 use Rattle.std.proofs.Common.{◌≡◌, ℕ, List, [], Option, Some, None, Bool, true, false, Result, Ok, Err, sym, subst}
-use Rattle.std.proofs.Common.{◌⊎◌, ◌∙◌, inl, inr}
+use Rattle.std.proofs.Common.{◌⊎◌, ◌∙◌, inl, inr, is_some, refl}
 use Rattle.granit_base.specs.Place.{Unread}
 use Rattle.granit_buffered.specs.Fallible.{characters_of, first_error}
 use Rattle.granit_cursor.specs.Reading.{Reading, CameOn, GoesOnward, Stands}
@@ -70,11 +70,12 @@ module _ {I V : Type 0} (unread : I → Unread → Type 0) (origin : I → Origi
     -- the error with which the source ends
     pub ended_whole : (lost : Bool) → IsPlacedOr lost e r → lost ≡ new.lost → GoesOnward unread old new
         → f ≡ Some e.kind → (e.mark.place ≡ new.place) × (e.sources ≡ [])
+        → is_some e.mark.byte_offset ≡ (origin old.input).tells_offset
         → GivesWhole unread origin view o m f (Err r) old new
-    ended_whole true none is goes ends place = inl (λ other. absurd (other none))
-    ended_whole false same is goes ends place =
+    ended_whole true none is goes ends place told = inl (λ other. absurd (other none))
+    ended_whole false same is goes ends place told =
         subst (λ (x : Refused). GivesWhole unread origin view o m f (Err x) old new) (sym same)
-        (inr (inl ends, place.1, placed_on e goes (sym is) place.0))
+        (inr (inl ends, place.1, placed_on e goes (sym is) place.0, told))
 
     -- a refusal that came before it was known how the source ends
     pub refused_whole : (lost : Bool) → IsPlacedOr lost e r → lost ≡ new.lost → GoesOnward unread old new
@@ -85,8 +86,17 @@ module _ {I V : Type 0} (unread : I → Unread → Type 0) (origin : I → Origi
     refused_whole false same is goes given moved =
         subst (λ (x : Refused). GivesWhole unread origin view o m f (Err x) old new) (sym same) (elim given [
           | inl gives ↦ inl gives
-          | inr failed ↦ inr (inr (failed.kind, moved), failed.unnamed, placed_on e goes (sym is) failed.place)
+          | inr failed ↦ inr (
+            inr (failed.kind, moved),
+            failed.unnamed,
+            placed_on e goes (sym is) failed.place,
+            failed.offset ∙ moved.tells_offset,
+          )
         ])
+
+none_told : (offset : Option ℕ) → is_some offset ≡ false → offset ≡ None
+none_told None silent = refl
+none_told (Some at) silent = absurd cc
 
 -- an error that a source gave is the first of the items
 pub items_of : {I V : Type 0} (unread : I → Unread → Type 0) (origin : I → Origin) (view : V → List PlainEvent)
@@ -95,10 +105,10 @@ pub items_of : {I V : Type 0} (unread : I → Unread → Type 0) (origin : I →
     → CameOn unread (bare_text_start (characters_of items)) old
     → ((k : FaultKind) → GoesGiving (origin old.input) (origin new.input) → (origin new.input).error ≡ Some k
     → first_error items ≡ Some k)
-    → AnswersItems view o items r
-items_of unread origin view o p items same (Ok v) old new g came source =
+    → (origin old.input).tells_offset ≡ false → AnswersItems view o items r
+items_of unread origin view o p items same (Ok v) old new g came source silent =
     (g.0, bare_answer_of o p (characters_of items) (view v) same g.1)
-items_of unread origin view o p items same (Err e) old new g came source = elim g [
+items_of unread origin view o p items same (Err e) old new g came source silent = elim g [
   | inl gives ↦ inr (bare_fault_of o p (characters_of items) e same gives)
   | inr given ↦ inl (
     elim given.0 [
@@ -107,5 +117,6 @@ items_of unread origin view o p items same (Err e) old new g came source = elim 
     ],
     given.1,
     given.2 (bare_text_start (characters_of items)) came,
+    none_told e.mark.byte_offset (given.3 ∙ silent),
   )
 ]

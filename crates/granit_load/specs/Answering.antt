@@ -1,6 +1,6 @@
 -- What a call answers that gives all events, and how it is refused.
 use Rattle.std.specs.Prelude.{◌≡◌, ◌⊎◌, ◌<◌, ℕ, Bool, true, false, List, Option, None, Some}
-use Rattle.std.specs.Prelude.{Result, Ok, Err, [], IfOk, IfErr}
+use Rattle.std.specs.Prelude.{Result, Ok, Err, [], IfOk, IfErr, is_some}
 use Rattle.granit_buffered.specs.Fallible.{characters_of, first_error}
 use Rattle.granit_base.specs.Counts.{last_count}
 use Rattle.granit_base.specs.Place.{Unread}
@@ -59,15 +59,16 @@ abbrev pub IsPlacedOr : (lost : Bool) → (e r : Refused) → Type 0
 IsPlacedOr false e r = r ≡ e
 IsPlacedOr true e r = r.kind ≡ NoMemory
 
--- The same where the source ends with this error or with none: an answer only where it ends with none, and a refusal is
--- its error, at a place up to which was read, or comes before it is known how the source ends.
+-- The same where the source ends with this error or with none: an answer only where it ends with none, and a refusal
+-- is its error, at a place up to which was read, with a byte offset exactly where the source tells offsets, or comes
+-- before it is known how the source ends.
 abbrev pub GivesWhole : {I V : Type 0} → (I → Unread → Type 0) → (I → Origin) → (V → List PlainEvent) → OptionsData
     → StepState → Option FaultKind → Result V Refused → (old new : Reading I) → Type 0
 GivesWhole unread origin view o m f (Ok v) old new = (f ≡ None) × GivesEvents o m (view v) None
 GivesWhole unread origin view o m f (Err e) old new =
     GivesAll view o m (Err e)
     ⊎ (((f ≡ Some e.kind) ⊎ ((origin new.input).error ≡ Some e.kind) × GoesGiving (origin old.input) (origin new.input))
-    × (e.sources ≡ []) × IsPlacedOn unread old e)
+    × (e.sources ≡ []) × IsPlacedOn unread old e × (is_some e.mark.byte_offset ≡ (origin old.input).tells_offset))
 
 -- there is no answer: memory ran out, or the refusal is so
 abbrev pub IsRefusedAs : {V : Type 0} → Result V Refused → (Refused → Type 0) → Type 0
@@ -78,10 +79,12 @@ abbrev pub bare_run : OptionsData → List ℕ → Result (List PlainEvent) Faul
 bare_run o text = bare_answer (record { offsets = false; lending = false }) (run o text)
 
 -- An answer is that of the characters, where no error ends them. A refusal is the error that ends them, at a place to
--- which reading them may have come, or the fault of the characters before it, unless memory ran out.
+-- which reading them may have come, with no byte offset, or the fault of the characters before it, unless memory ran
+-- out.
 abbrev pub AnswersItems : {V : Type 0} → (V → List PlainEvent) → OptionsData → List (Result ℕ ErrorKind)
     → Result V Refused → Type 0
 AnswersItems view o items (Ok v) = (first_error items ≡ None) × (bare_run o (characters_of items) ≡ Ok (view v))
 AnswersItems view o items (Err e) =
-    ((first_error items ≡ Some e.kind) × (e.sources ≡ []) × IsPlacedFrom (bare_text_start (characters_of items)) e)
+    ((first_error items ≡ Some e.kind) × (e.sources ≡ []) × IsPlacedFrom (bare_text_start (characters_of items)) e
+    × (e.mark.byte_offset ≡ None))
     ⊎ Fails e (bare_run o (characters_of items))

@@ -112,16 +112,9 @@ fn tag<'input>(
         (of_kind (kinds.Tag handle.now suffix.now) token.now) state.old) }
     ensures kept { state.new.kept ≡ state.old.kept }
 {
-    match state.known_prefix(options, handle) {
-        Some(prefix) => {
-            let tag = new_tag(alloc, prefix.as_str(), handle, suffix)?;
-            Ok(state.tagged(tag, token)?)
-        }
-        None => {
-            let tag = new_tag(alloc, default_prefix(fault, handle, token)?, handle, suffix)?;
-            Ok(state.tagged(tag, token)?)
-        }
-    }
+    let prefix = told_prefix(state, fault, options, handle, token)?;
+    let tag = new_tag(alloc, prefix, handle, suffix)?;
+    Ok(state.tagged(tag, token)?)
 }
 
 fn new_tag(
@@ -164,6 +157,24 @@ fn default_prefix<'a>(
         return Err(misplaced(fault, token, ErrorKind::UndeclaredTagHandle));
     }
     Ok(written)
+}
+
+/// What a handle stands for, by a directive or without one.
+fn told_prefix<'a, 'input>(
+    state: &'a ParserState<'input>,
+    fault: &mut Option<ScanError>,
+    options: &Options,
+    handle: &'a Text<'input>,
+    token: &Token<'input>,
+) -> Result<&'a str, Refused>
+    ensures { AnswersValue (λ s. chars s.now) (answered fault.new result) (steps.tag_prefix
+        (machine_token token.now) handle.now.characters
+        (steps.known_prefix (options_of options.now) handle.now.characters state.now)) }
+{
+    match state.known_prefix(options, handle) {
+        Some(prefix) => Ok(prefix.as_str()),
+        None => default_prefix(fault, handle, token),
+    }
 }
 
 /// The room for comments behind a `-`, of which its tail takes one.
@@ -473,15 +484,7 @@ pub fn bare<'input>(
         ),
         LexemeKind::Dash => first_dash(state, fault, alloc, options, token),
         LexemeKind::Question => begin_mapping(state, fault, options, token, PairStage::AtQuestion),
-        LexemeKind::Version(_, _) => first_colon(state, fault, alloc, options, token),
-        LexemeKind::TagPrefix(_, _) => first_colon(state, fault, alloc, options, token),
-        LexemeKind::Reserved(_, _) => first_colon(state, fault, alloc, options, token),
-        LexemeKind::DocumentStart => first_colon(state, fault, alloc, options, token),
-        LexemeKind::DocumentEnd => first_colon(state, fault, alloc, options, token),
-        LexemeKind::StreamEnd => first_colon(state, fault, alloc, options, token),
-        LexemeKind::Close(_) => first_colon(state, fault, alloc, options, token),
-        LexemeKind::Comma => first_colon(state, fault, alloc, options, token),
-        LexemeKind::Colon => first_colon(state, fault, alloc, options, token),
+        _ => first_colon(state, fault, alloc, options, token),
     }
 }
 
@@ -507,14 +510,6 @@ pub fn node<'input>(
             begin_mapping(state, fault, options, token, PairStage::AtKey)?;
             bare(state, fault, alloc, options, token)
         }
-        TokenSort::BeginsNode => bare(state, fault, alloc, options, token),
-        TokenSort::DashToken => bare(state, fault, alloc, options, token),
-        TokenSort::QuestionToken => bare(state, fault, alloc, options, token),
-        TokenSort::BareColon => bare(state, fault, alloc, options, token),
-        TokenSort::KeyedColon => bare(state, fault, alloc, options, token),
-        TokenSort::CommaToken => bare(state, fault, alloc, options, token),
-        TokenSort::SequenceCloser => bare(state, fault, alloc, options, token),
-        TokenSort::MappingCloser => bare(state, fault, alloc, options, token),
-        TokenSort::OfStream => bare(state, fault, alloc, options, token),
+        _ => bare(state, fault, alloc, options, token),
     }
 }

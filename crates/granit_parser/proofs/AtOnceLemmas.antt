@@ -1,7 +1,7 @@
 -- What a parser gives without memory, by what its stepper gives.
 use Rattle.std.proofs.Common.{◌≡◌, inl, inr, false, List, [], ◌∷◌, Option, None, Some, Result, Ok, Err, refl, sym}
 use Rattle.std.proofs.Common.{ap, subst, ◌∙◌}
-use Rattle.std.specs.Prelude.{IfSome}
+use Rattle.std.specs.Prelude.{IfSome, is_some}
 use Rattle.std.specs.Option.{option_map}
 use Rattle.granit_base.specs.declared.place.Span.{Span}
 use Rattle.granit_error.specs.Refused.{Refused}
@@ -14,7 +14,7 @@ use Rattle.granit_parser.specs.Parsing.{Next, next_view}
 use Rattle.granit_parser.specs.Sources.{IfUnseen, IsSourceError, TellsSource, unless_failed}
 use Rattle.granit_parser.specs.Waiting.{GivesAtOnce, TakesFirst, TakesFirstOf}
 use Rattle.granit_stepper.specs.Stepping.{Stepping, refused_kind}
-use Rattle.granit_stepper.specs.Waiting.{GivesFirstOf, GivesFirstWaiting, IsAtEnd, SameButCursor, waiting_events}
+use Rattle.granit_stepper.specs.Waiting.{GivesOldestOf, GivesFirstWaiting, IsAtEnd, SameButCursor, waiting_events}
 use Rattle.granit_stepper.specs.Waiting.{with_waiting}
 
 module _ {I : Type 0} where
@@ -28,7 +28,7 @@ module _ {I : Type 0} where
   -- ---- of what was read
 
   view_in : (es : List PlainEvent) (r : Result (Option (Event × Span)) Refused) (old new : Stepping I)
-      → GivesFirstOf (option_map plain_event) es r old new → TakesFirstOf es (next_view r) old new
+      → GivesOldestOf (option_map plain_event) es r old new → TakesFirstOf es (next_view r) old new
   view_in [] r old new given = tt
   view_in (e ∷ es) (Ok None) old new given = absurd (let clash = given.0 in cc)
   view_in (e ∷ es) (Ok (Some x)) old new given =
@@ -58,16 +58,17 @@ module _ {I : Type 0} (origin : I → Origin) (old mid new : Stepping I)
   pub at_once_by : (error : Option Refused)
       → option_map refused_kind error ≡ error_given (origin mid.scanner.cursor.input)
       → IfSome error (λ e. (e.mark.place ≡ new.scanner.cursor.place) × (e.sources ≡ []))
+      → IfSome error (λ e. is_some e.mark.byte_offset ≡ (origin new.scanner.cursor.input).tells_offset)
       → (error ≡ None → SameButCursor mid new) → GivesAtOnce origin old (unless_failed r error) new
-  at_once_by None is placed rest = record {
+  at_once_by None is placed offset rest = record {
     waiting = λ going. inl (takes_in (waiting_events old) r old mid new (rest refl) (waiting going));
     ended = λ going at. let none = ended at in
         inl (none.0, same_on old mid new (same_cursor old mid none.1) (rest refl));
   }
-  at_once_by (Some e) is placed rest =
+  at_once_by (Some e) is placed offset rest =
       let told : IsSourceError (origin new.scanner.cursor.input) new.scanner.cursor.place e =
       source_tells (origin old.scanner.cursor.input) (origin mid.scanner.cursor.input)
-      (origin new.scanner.cursor.input) goes gave e new.scanner.cursor.place is placed.0 placed.1 in
+      (origin new.scanner.cursor.input) goes gave e new.scanner.cursor.place is placed.0 placed.1 offset in
       record { waiting = λ going. inr told; ended = λ going at. inr told }
 
 -- ---- behind the end

@@ -11,7 +11,7 @@ use Rattle.granit_parser.proofs.GoesLemmas.{noted_steps}
 use Rattle.granit_parser.proofs.InLemmas.{closed_open, goes_in, open_seen}
 use Rattle.granit_parser.specs.Parsing.{Next, Parsing, StandsBefore}
 use Rattle.granit_parser.specs.Recovering.{AnswersBy, ChangesIn, Failed, GaveUp, GoesWithCalls, IsClosed, IsOpen}
-use Rattle.granit_parser.specs.Recovering.{ParserIn, SeenBy, SeenNext, SeenNone, StaysBy}
+use Rattle.granit_parser.specs.Recovering.{ParserIn, SeenBy, SeenNext, SeenNone, SeenOrFails}
 use Rattle.granit_recovery.specs.Streams.{EarlyOf, not_early, turn_early}
 use Rattle.granit_restart.proofs.AheadLaws.{one, OneTurn, waits_next}
 use Rattle.granit_restart.specs.Ahead.{AheadOf, not_ahead, turn_made}
@@ -206,8 +206,8 @@ module _ {I : Type 0} (unread : I → Unread → Type 0) (change : StepState →
   answers_changed c f (Some g) going fault is closed gone = gone_changed g gone
   answers_changed c (Some f) None going fault is closed at =
       let d : Calls = record c { steps = change c.steps } in
-      let before = subst (λ (f : Option Fault). StaysBy unread f p.peeked p.stepper c) fault at in
-      subst (λ (f : Option Fault). StaysBy unread f q.peeked q.stepper d) (sym fault)
+      let before = subst (λ (f : Option Fault). SeenOrFails unread f p.peeked p.stepper c) fault at in
+      subst (λ (f : Option Fault). SeenOrFails unread f q.peeked q.stepper d) (sym fault)
       (subst (λ (w : Next). SeenNone w) (sym peeked) before.0, failed_changed c.steps f before.1)
   answers_changed c None None going fault is closed at =
       absurd (closed_open c closed (record { over = going; fault = fault; refusal = is }))

@@ -20,7 +20,7 @@ use Rattle.granit_parser.specs.Parsing.{EndsBehind, Next, Parsing}
 use Rattle.granit_parser.specs.Recovering as spec
 use Rattle.granit_parser.specs.Recovering.{AnswersBy, AsksAt, AsksBefore, AsksBy, AsksNow, ComesBy, Failed}
 use Rattle.granit_parser.specs.Recovering.{GoesWithCalls, MeetsNumber, ParserIn, SeenBy, SeenNext, SeenTells}
-use Rattle.granit_parser.specs.Recovering.{SkipsToAsk, StaysBy, asking_document, comes_ahead, comes_anew}
+use Rattle.granit_parser.specs.Recovering.{SkipsToAsk, SeenOrFails, asking_document, comes_ahead, comes_anew}
 use Rattle.granit_parser.specs.Recovering.{comes_dropping, comes_here, comes_seen, StopsBy, StopsDropping, StopsIn}
 use Rattle.granit_parser.specs.Recovering.{comes_behind, comes_ended, seen_comment, seen_in, seen_kind, seen_other}
 use Rattle.granit_parser.specs.declared.recovery.Seen.TheVariants as seens
@@ -143,7 +143,7 @@ module _ {I : Type 0} (unread : I → Unread → Type 0) where
 
   module _ (p : Parsing I) (c : Calls) (at : ParserIn unread p c) (over : c.over ≡ false) (refusal : c.refusal ≡ None)
     where
-      stays_in : StaysBy unread c.fault p.peeked p.stepper c
+      stays_in : SeenOrFails unread c.fault p.peeked p.stepper c
       stays_in = subst (λ f. AnswersBy unread f p c) refusal (at.stays over)
 
       pub record AtFault : Type 0 where
@@ -154,7 +154,7 @@ module _ {I : Type 0} (unread : I → Unread → Type 0) where
       pub at_fault : p.stepper.failed ≡ true → AtFault
       at_fault failed = by c.fault refl stays_in
         where
-          by : (f : Option Fault) → c.fault ≡ f → StaysBy unread f p.peeked p.stepper c → AtFault
+          by : (f : Option Fault) → c.fault ≡ f → SeenOrFails unread f p.peeked p.stepper c → AtFault
           by None is seen =
               absurd (let no : true ≡ false = sym failed ∙ seen_going p.peeked p.stepper c seen in cc)
           by (Some f) is stays = record { fault = f; is = is; failed = stays.1 }
@@ -166,7 +166,7 @@ module _ {I : Type 0} (unread : I → Unread → Type 0) where
       pub going : p.stepper.failed ≡ false → Going
       going failed = by c.fault refl stays_in
         where
-          by : (f : Option Fault) → c.fault ≡ f → StaysBy unread f p.peeked p.stepper c → Going
+          by : (f : Option Fault) → c.fault ≡ f → SeenOrFails unread f p.peeked p.stepper c → Going
           by None is seen = record { fault = is; seen = seen }
           by (Some f) is stays = absurd (let no : true ≡ false = sym stays.1.failed ∙ failed in cc)
 

@@ -23,7 +23,7 @@ use Rattle.granit_restart.specs.Skipping.{with_pending}
 use Rattle.granit_stepper.proofs.GatherLemmas.{settled_ends, settled_gives, waits_settled}
 use Rattle.granit_stepper.proofs.StateLemmas.{next_fails, waiting}
 use Rattle.granit_stepper.proofs.TurnLemmas.{none_given as none_waits, some_given as some_waits}
-use Rattle.granit_stepper.specs.Gathering.{GivesBehind}
+use Rattle.granit_stepper.specs.Gathering.{GathersBehind}
 use Rattle.granit_stepper.specs.Numbers.{RefusesNumber}
 use Rattle.granit_stepper.specs.Stepping.{Stepping, StandsIn}
 use Rattle.granit_steps.specs.Steps.{StepState, next_event, settle}
@@ -107,7 +107,7 @@ module _ {I : Type 0} (unread : I → Unread → Type 0) (o : OptionsData) (m : 
   -- more was gathered
   pub gathers_more : (now after : Stepping I) (Refuses : StepState → Refused → Type 0) → after.first ≡ now.first
       → ((n : StepState) → StandsIn unread now n → now.first ≡ None
-      → GivesBehind (Ok true) (StandsIn unread after) o n (Refuses n))
+      → GathersBehind (Ok true) (StandsIn unread after) o n (Refuses n))
       → WaitsGathered unread o m now → WaitsGathered unread o m after
   gathers_more now after Refuses first gives w =
       let g = gives (with_pending now.parser.given w.at) w.stands w.told in
@@ -133,7 +133,7 @@ module _ {I : Type 0} (unread : I → Unread → Type 0) (o : OptionsData) (m : 
   -- nothing is left
   pub gathers_all : (now after : Stepping I) (Refuses : StepState → Refused → Type 0) → after.first ≡ now.first
       → ((n : StepState) → StandsIn unread now n → now.first ≡ None
-      → GivesBehind (Ok false) (StandsIn unread after) o n (Refuses n))
+      → GathersBehind (Ok false) (StandsIn unread after) o n (Refuses n))
       → WaitsGathered unread o m now → LeadsOut o m after.parser.given
   gathers_all now after Refuses first gives w =
       let g = gives (with_pending now.parser.given w.at) w.stands w.told in
@@ -163,8 +163,8 @@ module _ {I : Type 0} (unread : I → Unread → Type 0) (o : OptionsData) (m : 
 pub waiting_on : {I : Type 0} (unread : I → Unread → Type 0) (r : Result Bool Refused) (mid new : Stepping I) (b : Bool)
     (o : OptionsData) (m : StepState) → new.renumbered ≡ b
     → ((n : StepState) → StandsIn unread mid n → StandsIn unread new n)
-    → GivesBehind r (StandsIn unread mid) o m (RefusesNumber b o (with_pending [] m))
-    → GivesBehind r (StandsIn unread new) o m (RefusesNumber new.renumbered o (with_pending [] m))
+    → GathersBehind r (StandsIn unread mid) o m (RefusesNumber b o (with_pending [] m))
+    → GathersBehind r (StandsIn unread new) o m (RefusesNumber new.renumbered o (with_pending [] m))
 waiting_on unread (Ok some) mid new b o m same on gives =
     (gives.0, gives.1, on (with_pending (m.pending ++ gives.0.pending) gives.0) gives.2, gives.3)
 waiting_on unread (Err e) mid new b o m same on (inl fails) = inl fails

@@ -2,7 +2,7 @@
 use Rattle.std.proofs.Common.{◌≡◌, ◌⊎◌, inl, inr, ℕ, Bool, true, false, ◌||◌, List, [], ◌∷◌, Option, Some}
 use Rattle.std.proofs.Common.{None, Result, Ok, Err, refl, sym, ap, subst, ◌∙◌}
 use Rattle.std.specs.Option.{option_map}
-use Rattle.std.specs.Prelude.{IfErr, IfSome}
+use Rattle.std.specs.Prelude.{IfErr, IfSome, is_some}
 use Rattle.granit_base.specs.Place.{Unread}
 use Rattle.granit_base.specs.declared.place.Span.{Span}
 use Rattle.granit_error.specs.FaultKind.{NoMemory}
@@ -85,13 +85,14 @@ module _ {I : Type 0} (unread : I → Unread → Type 0) (origin : I → Origin)
   pub waits_by : (error : Option Refused) (r : Next) (m : StepState) (f : Fault)
       → option_map refused_kind error ≡ error_given (origin mid.scanner.cursor.input)
       → IfSome error (λ e. (e.mark.place ≡ new.scanner.cursor.place) × (e.sources ≡ []))
+      → IfSome error (λ e. is_some e.mark.byte_offset ≡ (origin new.scanner.cursor.input).tells_offset)
       → (error ≡ None → ReadsHeld unread r mid m f → ReadsHeld unread r new m f) → ReadsHeld unread r mid m f
       → ReadsHeld unread (unless_failed r error) new m f
       ⊎ TellsSource origin (unless_failed r error) new.scanner.cursor
-  waits_by None r m f is placed on reads = inl (on refl reads)
-  waits_by (Some e) r m f is placed on reads = inr (source_tells (origin old.scanner.cursor.input)
+  waits_by None r m f is placed told on reads = inl (on refl reads)
+  waits_by (Some e) r m f is placed told on reads = inr (source_tells (origin old.scanner.cursor.input)
       (origin mid.scanner.cursor.input) (origin new.scanner.cursor.input) goes gave e new.scanner.cursor.place is
-      placed.0 placed.1)
+      placed.0 placed.1 told)
 
 -- ---- why it waits, behind an event that waited
 

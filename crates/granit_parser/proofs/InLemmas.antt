@@ -20,7 +20,8 @@ use Rattle.granit_parser.specs.Holding.{ParserHolds, WaitsBehind}
 use Rattle.granit_parser.specs.Parsing.{EndsWith, GivesNext, IsOver, KeepsGiven, Next, Parsing, ParserPeeksAs, Starves}
 use Rattle.granit_parser.specs.Parsing.{ShowsNext, StandsBefore, notes_answered}
 use Rattle.granit_parser.specs.Recovering.{AnswersBy, Failed, FailsAt, GaveUp, GivesCall, GoesWithCalls, IsClosed}
-use Rattle.granit_parser.specs.Recovering.{IsOpen, ParserIn, ReadsNext, SeenBy, SeenNext, SeenNone, ShowsCall, StaysBy}
+use Rattle.granit_parser.specs.Recovering.{IsOpen, ParserIn, ReadsNext, SeenBy, SeenNext, SeenNone, SeenOrFails}
+use Rattle.granit_parser.specs.Recovering.{ShowsCall}
 use Rattle.granit_parser.specs.Recovering.{LookShowsHeld, between_behind, failed_in, notes_between, notes_over, PeeksIn}
 use Rattle.granit_parser.specs.Recovering.{over_behind}
 use Rattle.granit_parser.specs.Sources.{IfUnseen, MovesUnless, NeverRecovers, TellsError, TellsSource}
@@ -124,14 +125,14 @@ module _ {I : Type 0} (unread : I → Unread → Type 0) where
 
   pub open_seen : (p : Parsing I) (c : Calls) → IsOpen c → ParserIn unread p c → SeenBy unread p.peeked p.stepper c
   open_seen p c is at =
-      subst (λ f. StaysBy unread f p.peeked p.stepper c) is.fault
+      subst (λ f. SeenOrFails unread f p.peeked p.stepper c) is.fault
       (subst (λ f. AnswersBy unread f p c) is.refusal (at.stays is.over))
 
   answers_by : (p : Parsing I) (d : Calls) → d.refusal ≡ None → d.fault ≡ None
       → SeenBy unread p.peeked p.stepper d → AnswersBy unread d.refusal p d
   answers_by p d refusal fault seen =
       subst (λ f. AnswersBy unread f p d) (sym refusal)
-      (subst (λ f. StaysBy unread f p.peeked p.stepper d) (sym fault) seen)
+      (subst (λ f. SeenOrFails unread f p.peeked p.stepper d) (sym fault) seen)
 
   pub goes_in : (p : Parsing I) (c : Calls) → c.refusal ≡ None → c.fault ≡ None → p.over ≡ c.over
       → p.between ≡ c.between → SeenBy unread p.peeked p.stepper c → ParserIn unread p c
@@ -225,8 +226,8 @@ module _ {I : Type 0} (unread : I → Unread → Type 0) where
 
     failed_stays : (f : Fault) → c.fault ≡ Some f → c.refusal ≡ None → c.over ≡ false → ParserIn unread q c
     failed_stays f is refusal going =
-        let stays : StaysBy unread (Some f) p.peeked p.stepper c =
-        subst (λ f. StaysBy unread f p.peeked p.stepper c) is
+        let stays : SeenOrFails unread (Some f) p.peeked p.stepper c =
+        subst (λ f. SeenOrFails unread f p.peeked p.stepper c) is
         (subst (λ r. AnswersBy unread r p c) refusal (at.stays going)) in
         by p.peeked refl stays.0 stays.1
       where
@@ -243,7 +244,7 @@ module _ {I : Type 0} (unread : I → Unread → Type 0) where
               between = λ is. absurd (closed_open c closed is);
               ended = at.ended;
               stays = λ b. subst (λ r. AnswersBy unread r q c) (sym refusal)
-                  (subst (λ g. StaysBy unread g q.peeked q.stepper c) (sym is) (
+                  (subst (λ g. SeenOrFails unread g q.peeked q.stepper c) (sym is) (
                     subst (λ (w : Next). SeenNone w) (sym none) tt,
                     subst (λ s. Failed unread s c.steps f) (sym shown.1) failed,
                   ));
@@ -272,8 +273,9 @@ module _ {I : Type 0} (unread : I → Unread → Type 0) where
   failed_by f (Some e) p c fault refusal going closed stays =
       let gone : GaveUp p e = subst (λ r. AnswersBy unread r p c) refusal stays in gone.failed
   failed_by (Some f) None p c fault refusal going closed stays =
-      let failed : StaysBy unread (Some f) p.peeked p.stepper c =
-      subst (λ f. StaysBy unread f p.peeked p.stepper c) fault (subst (λ r. AnswersBy unread r p c) refusal stays) in
+      let failed : SeenOrFails unread (Some f) p.peeked p.stepper c =
+      subst (λ f. SeenOrFails unread f p.peeked p.stepper c) fault
+      (subst (λ r. AnswersBy unread r p c) refusal stays) in
       failed.1.failed
   failed_by None None p c fault refusal going closed stays =
       absurd (closed_open c closed (record { over = going; fault = fault; refusal = refusal }))

@@ -14,7 +14,7 @@ use Rattle.granit_parser.proofs.RecoverLemmas.{any_stops}
 use Rattle.granit_parser.specs.Parsing.{Parsing}
 use Rattle.granit_parser.specs.Recovering as spec
 use Rattle.granit_parser.specs.Recovering.{AnswersBy, AnswersIn, AsksBy, Ends, Follows, GaveUp, IsOpen, MeetsNumber}
-use Rattle.granit_parser.specs.Recovering.{ParserIn, Proceeds, RecoveryLeaves, SeenBy, SkipsToAsk, StaysBy, StopsIn}
+use Rattle.granit_parser.specs.Recovering.{ParserIn, Proceeds, RecoveryLeaves, SeenBy, SkipsToAsk, SeenOrFails, StopsIn}
 use Rattle.granit_parser.specs.Recovering.{seen_in}
 use Rattle.granit_parser.specs.Sources.{TellsSource}
 use Rattle.granit_parser.specs.declared.recovery.Seen.{Seen}
@@ -72,7 +72,7 @@ module _ {I : Type 0} (unread : I → Unread → Type 0) where
       parts : (p.stepper.failed ≡ true) × (is_some p.stepper.refusal ≡ false)
       parts = failed_part p.stepper.failed (is_some p.stepper.refusal) closed
 
-      open_by : (f : Option Fault) → StaysBy unread f p.peeked p.stepper c → Ends unread (Err e) p q c
+      open_by : (f : Option Fault) → SeenOrFails unread f p.peeked p.stepper c → Ends unread (Err e) p q c
       open_by None seen =
           absurd (let no : true ≡ false = sym parts.0 ∙ seen_going unread p.peeked p.stepper c seen in cc)
       open_by (Some f) stays =

@@ -118,11 +118,12 @@ module _ (a b c : Origin) (goes : Goes a b) (gave : Gave b c) where
 
   -- what it gives is its error
   pub source_tells : (e : Refused) (at : Place) → Some e.kind ≡ error_given b → e.mark.place ≡ at → e.sources ≡ []
-      → IsSourceError c at e
-  source_tells e at is place unnamed = record {
+      → is_some e.mark.byte_offset ≡ c.tells_offset → IsSourceError c at e
+  source_tells e at is place unnamed told = record {
     kind = gave.error ∙ given_met b e.kind is;
     place = place;
     unnamed = unnamed;
+    offset = told;
   }
 
   -- an error that wasn't handed out before is given
@@ -180,14 +181,15 @@ module _ {I : Type 0} (unread : I → Unread → Type 0) (origin : I → Origin)
   pub known_by : (error : Option Refused) (r : Next) (b : Bool) (o : OptionsData) (m : StepState) → new.renumbered ≡ b
       → option_map refused_kind error ≡ error_given (origin mid.scanner.cursor.input)
       → IfSome error (λ e. (e.mark.place ≡ new.scanner.cursor.place) × (e.sources ≡ []))
+      → IfSome error (λ e. is_some e.mark.byte_offset ≡ (origin new.scanner.cursor.input).tells_offset)
       → ((m : StepState) → StandsIn unread mid m → error ≡ None → StandsIn unread new m)
       → GivesNext r (StandsIn unread mid) b o m
       → GivesNext (unless_failed r error) (StandsIn unread new) new.renumbered o m
       ⊎ TellsSource origin (unless_failed r error) new.scanner.cursor
-  known_by None r b o m same is placed on gives = inl (landed r b o m same (λ n at. on n at refl) gives)
-  known_by (Some e) r b o m same is placed on gives = inr (source_tells (origin old.scanner.cursor.input)
+  known_by None r b o m same is placed told on gives = inl (landed r b o m same (λ n at. on n at refl) gives)
+  known_by (Some e) r b o m same is placed told on gives = inr (source_tells (origin old.scanner.cursor.input)
       (origin mid.scanner.cursor.input) (origin new.scanner.cursor.input) goes gave e new.scanner.cursor.place is
-      placed.0 placed.1)
+      placed.0 placed.1 told)
 
   pub sure_by : (error : Option Refused) (r : Next) (b : Bool) (o : OptionsData) (m : StepState) → new.renumbered ≡ b
       → option_map refused_kind error ≡ error_given (origin mid.scanner.cursor.input)
@@ -203,12 +205,13 @@ module _ {I : Type 0} (unread : I → Unread → Type 0) (origin : I → Origin)
   pub source_by : (error : Option Refused) (r : Next)
       → option_map refused_kind error ≡ error_given (origin mid.scanner.cursor.input)
       → IfSome error (λ e. (e.mark.place ≡ new.scanner.cursor.place) × (e.sources ≡ []))
+      → IfSome error (λ e. is_some e.mark.byte_offset ≡ (origin new.scanner.cursor.input).tells_offset)
       → TellsError origin old (unless_failed r error) new.scanner.cursor
-  source_by None r is placed = λ f met fresh going. absurd (never_silent (origin old.scanner.cursor.input)
+  source_by None r is placed told = λ f met fresh going. absurd (never_silent (origin old.scanner.cursor.input)
       (origin mid.scanner.cursor.input) (origin new.scanner.cursor.input) goes gave f (sym is) met fresh)
-  source_by (Some e) r is placed = λ f met fresh going. source_tells (origin old.scanner.cursor.input)
+  source_by (Some e) r is placed told = λ f met fresh going. source_tells (origin old.scanner.cursor.input)
       (origin mid.scanner.cursor.input) (origin new.scanner.cursor.input) goes gave e new.scanner.cursor.place is
-      placed.0 placed.1
+      placed.0 placed.1 told
 
   pub lost_by : (error : Option Refused) (r : Next)
       → option_map refused_kind error ≡ error_given (origin mid.scanner.cursor.input)
@@ -336,9 +339,10 @@ module _ {I : Type 0} (unread : I → Unread → Type 0) (origin : I → Origin)
   pub reads_by : (error : Option Refused) (r : Next) (c : Calls)
       → option_map refused_kind error ≡ error_given (origin mid.scanner.cursor.input)
       → IfSome error (λ e. (e.mark.place ≡ new.scanner.cursor.place) × (e.sources ≡ []))
+      → IfSome error (λ e. is_some e.mark.byte_offset ≡ (origin new.scanner.cursor.input).tells_offset)
       → (error ≡ None → ReadsNext unread r mid c → ReadsNext unread r new c) → ReadsNext unread r mid c
       → ReadsNext unread (unless_failed r error) new c ⊎ TellsSource origin (unless_failed r error) new.scanner.cursor
-  reads_by None r c is placed on reads = inl (on refl reads)
-  reads_by (Some e) r c is placed on reads = inr (source_tells (origin old.scanner.cursor.input)
+  reads_by None r c is placed told on reads = inl (on refl reads)
+  reads_by (Some e) r c is placed told on reads = inr (source_tells (origin old.scanner.cursor.input)
       (origin mid.scanner.cursor.input) (origin new.scanner.cursor.input) goes gave e new.scanner.cursor.place is
-      placed.0 placed.1)
+      placed.0 placed.1 told)

@@ -79,9 +79,9 @@ SeenBy unread None s c = GoesWithCalls unread s c
 SeenBy unread (Some (Ok x)) s c = SeenNext unread s (plain_event x) c
 SeenBy unread (Some (Err e)) s c = ⊥
 
-abbrev pub StaysBy : {I : Type 0} → (I → Unread → Type 0) → Option Fault → Next → Stepping I → Calls → Type 0
-StaysBy unread None seen s c = SeenBy unread seen s c
-StaysBy unread (Some f) seen s c = SeenNone seen × Failed unread s c.steps f
+abbrev pub SeenOrFails : {I : Type 0} → (I → Unread → Type 0) → Option Fault → Next → Stepping I → Calls → Type 0
+SeenOrFails unread None seen s c = SeenBy unread seen s c
+SeenOrFails unread (Some f) seen s c = SeenNone seen × Failed unread s c.steps f
 
 -- a refusal that was looked at and not taken is what recovery answers, where it is refused
 abbrev pub GivesSeen : Next → Result Bool Refused → Type 0
@@ -99,7 +99,7 @@ pub record GaveUp {I : Type 0} (p : Parsing I) (f : Fault) : Type 0 where
   pub is_kept : IsKept f kept
 
 abbrev pub AnswersBy : {I : Type 0} → (I → Unread → Type 0) → (refusal : Option Fault) → Parsing I → Calls → Type 0
-AnswersBy unread None p c = StaysBy unread c.fault p.peeked p.stepper c
+AnswersBy unread None p c = SeenOrFails unread c.fault p.peeked p.stepper c
 AnswersBy unread (Some f) p c = GaveUp p f
 
 -- no call gives an event any more

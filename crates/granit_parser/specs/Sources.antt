@@ -1,5 +1,6 @@
 -- What calls give and leave where the source of an input may fail.
 use Rattle.std.specs.Prelude.{◌≡◌, ◌≤◌, ℕ, true, false, [], Option, Some, None, Result, Ok, Err, IfErr, IfSome, IsSome}
+use Rattle.std.specs.Prelude.{is_some}
 use Rattle.granit_base.specs.Place.{Place}
 use Rattle.granit_cursor.specs.Reading.{Reading}
 use Rattle.granit_error.specs.FaultKind.{FaultKind, NoMemory}
@@ -7,11 +8,13 @@ use Rattle.granit_error.specs.Refused.{Refused}
 use Rattle.granit_input.specs.Origin.{Origin, Goes}
 use Rattle.granit_stepper.specs.Stepping.{Stepping}
 
--- the first error that a source gave, at that place, outside any named source
+-- the first error that a source gave, at that place, outside any named source; its byte offset is told exactly where
+-- the source tells offsets
 pub record IsSourceError (o : Origin) (at : Place) (e : Refused) : Type 0 where
   pub kind : o.error ≡ Some e.kind
   pub place : e.mark.place ≡ at
   pub unnamed : e.sources ≡ []
+  pub offset : is_some e.mark.byte_offset ≡ o.tells_offset
 
 -- a call gave the error of the source, at the place up to which was read
 abbrev pub TellsSource : {I X : Type 0} → (I → Origin) → Option (Result X Refused) → Reading I → Type 0

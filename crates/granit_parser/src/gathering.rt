@@ -10,7 +10,7 @@ ghost use Rattle.granit_parser.specs.Sources.{GoesGiving, GoesUnless, TellsSourc
 ghost use Rattle.granit_parser.specs.Waiting.{GathersNone};
 ghost use Rattle.granit_refused.specs.Answered.{answered};
 ghost use Rattle.granit_restart.specs.Skipping.{with_pending};
-ghost use Rattle.granit_stepper.specs.Gathering.{GivesBehind};
+ghost use Rattle.granit_stepper.specs.Gathering.{GathersBehind};
 ghost use Rattle.granit_stepper.specs.Numbers.{RefusesNumber};
 ghost use Rattle.granit_stepper.specs.Stepping.{StandsIn};
 ghost use Rattle.granit_stepper.specs.Waiting.{IsAtEnd};
@@ -125,7 +125,7 @@ impl<'input, T: BorrowedInput<'input>> Parser<'input, T> {
     /// read up to that.
     fn more_events(&mut self, fault: &mut Option<ScanError>) -> Result<bool, Refusal>
         ensures known { (m : StepState) → StandsIn T.unread self.old.stepper m → self.old.stepper.first ≡ None
-            → GivesBehind (answered fault.new result) (StandsIn T.unread self.new.stepper)
+            → GathersBehind (answered fault.new result) (StandsIn T.unread self.new.stepper)
             self.old.stepper.scanner.options m
             (RefusesNumber self.new.stepper.renumbered self.old.stepper.scanner.options (with_pending [] m))
             ⊎ TellsSource T.origin (Some (answered fault.new result)) self.new.stepper.scanner.cursor }
@@ -148,7 +148,7 @@ impl<'input, T: BorrowedInput<'input>> Parser<'input, T> {
     /// The next events of what was read wait behind those that do, whether the source failed or not.
     fn step_events(&mut self, fault: &mut Option<ScanError>) -> Result<bool, Refusal>
         ensures known { (m : StepState) → StandsIn T.unread self.old.stepper m → self.old.stepper.first ≡ None
-            → GivesBehind (answered fault.new result) (StandsIn T.unread self.new.stepper)
+            → GathersBehind (answered fault.new result) (StandsIn T.unread self.new.stepper)
             self.old.stepper.scanner.options m
             (RefusesNumber self.old.stepper.renumbered self.old.stepper.scanner.options (with_pending [] m)) }
         ensures first { self.new.stepper.first ≡ self.old.stepper.first }

@@ -438,6 +438,8 @@ impl<'input, T: BorrowedInput<'input>> Parser<'input, T> {
             ≡ error_given (T.origin self.old.stepper.scanner.cursor.input) }
         ensures place { IfSome result (λ e. (e.mark.place ≡ self.new.stepper.scanner.cursor.place)
             × (e.sources ≡ [])) }
+        ensures offset { IfSome result (λ e.
+            is_some e.mark.byte_offset ≡ (T.origin self.new.stepper.scanner.cursor.input).tells_offset) }
         ensures known { (m : StepState) → StandsIn T.unread self.old.stepper m → result ≡ None
             → StandsIn T.unread self.new.stepper m }
         ensures held { (m : StepState) → HoldsRefusal T.unread self.old.stepper m → result ≡ None
@@ -511,6 +513,8 @@ impl<'input, T: BorrowedInput<'input>> Parser<'input, T> {
             → option_map refused_kind result ≡ f }
         ensures place { IfSome result (λ e. (e.mark.place ≡ self.new.stepper.scanner.cursor.place)
             × (e.sources ≡ [])) }
+        ensures offset { IfSome result (λ e.
+            is_some e.mark.byte_offset ≡ (T.origin self.old.stepper.scanner.cursor.input).tells_offset) }
         ensures failed { self.new.stepper.failed ≡ (self.old.stepper.failed || is_some result) }
         ensures options { self.new.stepper.scanner.options ≡ self.old.stepper.scanner.options }
         ensures renumbered { self.new.stepper.renumbered ≡ self.old.stepper.renumbered }
@@ -523,6 +527,7 @@ impl<'input, T: BorrowedInput<'input>> Parser<'input, T> {
     }
 }
 
+#[inline(always)]
 fn next_of<'a>(
     event: Result<Option<(Event<'a>, Span)>, ScanError>,
 ) -> Option<Result<(Event<'a>, Span), ScanError>>
@@ -542,6 +547,7 @@ fn wants_memory(error: &ScanError) -> bool
 }
 
 /// An event, or the error of the source in its place.
+#[inline(always)]
 fn unless_failed<'a>(
     event: Option<Result<(Event<'a>, Span), ScanError>>,
     error: Option<ScanError>,

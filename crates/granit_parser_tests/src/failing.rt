@@ -1,29 +1,32 @@
 //! Parsers over iterators that fail.
+use crate::agree::agree;
+use crate::calls::Call::{self, Next, Peek};
+use crate::calls::Letters;
 use crate::items::{characters, characters_and_error};
-use crate::letters::{NO_MEMORY, letters_of};
+use crate::tells::told_of;
 use granit_error::options;
 use granit_parser::Parser;
 use std::alloc::Global;
 
 /// What is looked at, twice, and taken.
-const CALLS: [[char; 4]; 2] = [['p', 'p', 'n', 'p'], ['p', 'n', 'p', 'n']];
+const CALLS: Letters = Letters([Peek, Peek, Next, Peek, Peek, Next, Peek, Next]);
 
-/// One character and an error.
-fn of_a_character(alloc: Global) -> [[char; 4]; 2] {
+/// One character and an error; nothing for want of memory.
+fn of_a_character(alloc: Global) -> [char; 8] {
     let items = characters_and_error(alloc, "a").into_iter();
     match Parser::new_from_fallible_iter(alloc, items) {
-        Ok(parser) => letters_of(parser, CALLS),
-        Err(_) => NO_MEMORY,
+        Ok(parser) => told_of(parser, &CALLS),
+        Err(_) => ['-'; 8],
     }
 }
 
 /// A comment that isn't asked for.
-fn of_a_comment(alloc: Global) -> [[char; 4]; 2] {
+fn of_a_comment(alloc: Global) -> [char; 8] {
     let options = options!(emit_comments: false);
     let items = characters(alloc, "# c\n").into_iter();
     match Parser::new_from_fallible_iter_with_options(alloc, items, options) {
-        Ok(parser) => letters_of(parser, CALLS),
-        Err(_) => NO_MEMORY,
+        Ok(parser) => told_of(parser, &CALLS),
+        Err(_) => ['-'; 8],
     }
 }
 
@@ -31,8 +34,8 @@ fn of_a_comment(alloc: Global) -> [[char; 4]; 2] {
 fn items_one_by_one(rt: HostRuntime) {
     let letters = [of_a_character(rt.alloc()), of_a_comment(rt.alloc())];
     let wanted = [
-        [['S', 'S', 'S', '~'], ['~', '~', '.', '.']],
-        [['S', 'S', 'S', 's'], ['s', 's', '.', '.']],
+        ['S', 'S', 'S', '~', '~', '~', '.', '.'],
+        ['S', 'S', 'S', 's', 's', 's', '.', '.'],
     ];
-    assert_eq!(rt; letters, wanted);
+    agree(&rt, letters, wanted);
 }

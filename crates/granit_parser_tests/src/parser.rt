@@ -1,84 +1,88 @@
 //! What the calls give of a text, one by one.
-use crate::letters::{NO_MEMORY, letters_of};
+use crate::agree::agree;
+use crate::calls::Call::{Item, Next, Peek};
+use crate::calls::Letters;
+use crate::tells::{told_of, told_of_text};
 use granit_error::options;
 use granit_input::StrInput;
 use granit_parser::Parser;
 use std::alloc::Global;
 
-/// A refusal comes once, behind the start of the stream.
-fn of_a_bracket(alloc: Global) -> [[char; 4]; 2] {
-    letters_of(Parser::new_from_str(alloc, "["), [['n'; 4], ['n'; 4]])
-}
+/// Events are taken.
+const TAKES: Letters = Letters([Next; 8]);
+
+/// They are taken by the iterator.
+const STEPS: Letters = Letters([Item; 8]);
 
 /// Nothing comes behind the end of the stream.
-fn of_nothing(alloc: Global) -> [[char; 4]; 2] {
-    letters_of(Parser::new(alloc, StrInput::new("")), [['n'; 4], ['n'; 4]])
+fn of_nothing(alloc: Global) -> [char; 8] {
+    told_of(Parser::new(alloc, StrInput::new("")), &TAKES)
 }
 
 #[test]
 fn one_by_one(rt: HostRuntime) {
-    let alloc = rt.alloc();
-    let letters = [of_a_bracket(alloc), of_nothing(alloc)];
-    let wanted = [
-        [['S', '!', '.', '.'], ['.'; 4]],
-        [['S', 's', '.', '.'], ['.'; 4]],
+    // a refusal comes once, behind the start of the stream
+    let letters = [
+        told_of_text(rt.alloc(), "[", &TAKES),
+        of_nothing(rt.alloc()),
     ];
-    assert_eq!(rt; letters, wanted);
+    let wanted = [
+        ['S', '!', '.', '.', '.', '.', '.', '.'],
+        ['S', 's', '.', '.', '.', '.', '.', '.'],
+    ];
+    agree(&rt, letters, wanted);
 }
 
 /// What is looked at, twice each, and taken.
-fn looks(alloc: Global) -> [[char; 4]; 2] {
-    let calls = [['p', 'p', 'n', 'p'], ['p', 'i', 'p', 'i']];
-    letters_of(Parser::new_from_str(alloc, "["), calls)
-}
+const LOOKS: Letters = Letters([Peek, Peek, Next, Peek, Peek, Item, Peek, Item]);
 
 #[test]
 fn looked_at(rt: HostRuntime) {
-    assert_eq!(rt;
-        looks(rt.alloc()),
-        [['S', 'S', 'S', '!'], ['!', '!', '.', '.']]
-    );
+    let letters = told_of_text(rt.alloc(), "[", &LOOKS);
+    agree(&rt, letters, ['S', 'S', 'S', '!', '!', '!', '.', '.']);
 }
 
 /// A comment that isn't asked for, in an input.
-fn of_an_input(alloc: Global) -> [[char; 4]; 2] {
+fn of_an_input(alloc: Global) -> [char; 8] {
     let options = options!(emit_comments: false);
-    letters_of(
+    told_of(
         Parser::with_options(alloc, StrInput::new("# c\n"), options),
-        [['i'; 4], ['i'; 4]],
+        &STEPS,
     )
 }
 
 /// The same in a text.
-fn of_a_text(alloc: Global) -> [[char; 4]; 2] {
+fn of_a_text(alloc: Global) -> [char; 8] {
     let options = options!(emit_comments: false);
-    letters_of(
+    told_of(
         Parser::new_from_str_with_options(alloc, "# c\n", options),
-        [['i'; 4], ['i'; 4]],
+        &STEPS,
     )
 }
 
 #[test]
 fn with_options(rt: HostRuntime) {
-    let alloc = rt.alloc();
-    let wanted = [['S', 's', '.', '.'], ['.'; 4]];
-    assert_eq!(rt; [of_an_input(alloc), of_a_text(alloc)], [wanted, wanted]);
+    let letters = [of_an_input(rt.alloc()), of_a_text(rt.alloc())];
+    agree(&rt, letters, [['S', 's', '.', '.', '.', '.', '.', '.']; 2]);
 }
 
-/// The characters of a bracket.
-fn of_characters(alloc: Global) -> [[char; 4]; 2] {
+/// The characters of a bracket, the first event of which is looked at; nothing for want of memory.
+fn of_characters(alloc: Global) -> [char; 8] {
     match Parser::new_from_iter(alloc, "[".chars()) {
-        Ok(parser) => letters_of(parser, [['p', 'n', 'n', 'n'], ['n'; 4]]),
-        Err(_) => NO_MEMORY,
+        Ok(parser) => told_of(
+            parser,
+            &Letters([Peek, Next, Next, Next, Next, Next, Next, Next]),
+        ),
+        Err(_) => ['-'; 8],
     }
 }
 
 /// Those of a comment that isn't asked for.
-fn of_characters_with_options(alloc: Global) -> [[char; 4]; 2] {
+fn of_characters_with_options(alloc: Global) -> [char; 8] {
     let options = options!(emit_comments: false);
     match Parser::new_from_iter_with_options(alloc, "# c\n".chars(), options) {
-        Ok(parser) => letters_of(parser, [['i'; 4], ['i'; 4]]),
-        Err(_) => NO_MEMORY,
+        Ok(parser) => told_of(parser, &STEPS),
+        Err(_) => ['-'; 8],
     }
 }
 
@@ -89,8 +93,8 @@ fn characters_one_by_one(rt: HostRuntime) {
         of_characters_with_options(rt.alloc()),
     ];
     let wanted = [
-        [['S', 'S', '!', '.'], ['.'; 4]],
-        [['S', 's', '.', '.'], ['.'; 4]],
+        ['S', 'S', '!', '.', '.', '.', '.', '.'],
+        ['S', 's', '.', '.', '.', '.', '.', '.'],
     ];
-    assert_eq!(rt; letters, wanted);
+    agree(&rt, letters, wanted);
 }

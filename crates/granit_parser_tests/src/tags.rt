@@ -1,4 +1,5 @@
 //! Handles that stay over documents.
+use crate::agree::agree;
 use granit_base::Span;
 use granit_error::ScanError;
 use granit_event::Event;
@@ -39,6 +40,9 @@ fn behind<'t, T: Given + Drop>(given: T, text: &'t str) -> Option<&'t str> {
 
 /// What tells its handles.
 trait TellsHandles {
+    /// The same, by whether handles stay from then on.
+    fn keeping(self, keep: bool) -> Self;
+
     /// Whether these are those of all events, of twelve at most, one behind the other.
     fn tells(&mut self, want: &str) -> bool;
 
@@ -47,6 +51,10 @@ trait TellsHandles {
 }
 
 impl<'a, T: BorrowedInput<'a>> TellsHandles for Parser<'a, T> {
+    fn keeping(self, keep: bool) -> Parser<'a, T> {
+        self.keep_tags(keep)
+    }
+
     fn tells(&mut self, want: &str) -> bool {
         let mut left = want;
         'events: for _ in 0..12 {
@@ -69,17 +77,17 @@ fn finds_document<E: Drop>(answer: Result<bool, E>) -> bool {
     matches!(answer, Ok(true))
 }
 
-/// The same of a parser that is let go here.
+/// Whether these are the handles of a parser that is let go here.
 fn tells_of<P: TellsHandles + Drop>(parser: P, want: &str) -> bool {
     let mut parser = parser;
     parser.tells(want)
 }
 
 /// The same behind the fault of a first document, in front of which handles stayed, by whether they stay from then on.
-fn tells_behind<'a, T: BorrowedInput<'a>>(parser: Parser<'a, T>, keep: bool, want: &str) -> bool {
-    let mut parser = parser.keep_tags(true);
+fn tells_behind<P: TellsHandles + Drop>(parser: P, keep: bool, want: &str) -> bool {
+    let mut parser = parser.keeping(true);
     let before = parser.tells("t:?");
-    let mut parser = parser.keep_tags(keep);
+    let mut parser = parser.keeping(keep);
     before && parser.recovers() && parser.tells(want)
 }
 
@@ -95,7 +103,7 @@ fn handles_over_documents(rt: HostRuntime) {
         tells(rt.alloc(), KEPT, true, "t:t:"),
         tells(rt.alloc(), CORE, true, "t:tag:yaml.org,2002:"),
     ];
-    assert_eq!(rt; told, [true; 3]);
+    agree(&rt, told, [true; 3]);
 }
 
 /// A document that isn't closed in place of the first one.
@@ -107,5 +115,5 @@ fn handles_behind_a_fault(rt: HostRuntime) {
         tells_behind(Parser::new_from_str(rt.alloc(), UNCLOSED), true, "t:"),
         tells_behind(Parser::new_from_str(rt.alloc(), UNCLOSED), false, "?"),
     ];
-    assert_eq!(rt; told, [true; 2]);
+    agree(&rt, told, [true; 2]);
 }

@@ -2,6 +2,7 @@
 ghost use Rattle.std.specs.Prelude.{◌≡◌, ◌≤◌, ◌||◌, [], true, false, None, Some, Ok, Err, is_none, drop, slice_get};
 ghost use Rattle.std.specs.Prelude.{IfErr, IfOk};
 ghost use Rattle.std.specs.Option.{option_map};
+ghost use Rattle.std.specs.Result.{result_transpose};
 ghost use Rattle.granit_base.specs.Place.{Unread};
 ghost use Rattle.granit_cursor.specs.Reading.{GivesTo, GoesOnward, GoesTo, Moves, Stands};
 ghost use Rattle.granit_error.specs.FaultKind as faults;
@@ -508,6 +509,18 @@ fn keep_first(kept: &mut Option<ScanError>, given: Option<ErrorKind>, mark: Mark
     }
 }
 
+/// What is given of what comes next: inlined, a token is moved once, where std's `transpose` copies it twice.
+#[inline(always)]
+fn next_of<'a>(token: Result<Option<Token<'a>>, ScanError>) -> Option<Result<Token<'a>, ScanError>>
+    ensures { result ≡ result_transpose token.entry }
+{
+    match token {
+        Ok(None) => None,
+        Ok(Some(token)) => Some(Ok(token)),
+        Err(error) => Some(Err(error)),
+    }
+}
+
 /// The tokens one by one, as `next_queued` gives them, up to the end of the stream or a refusal.
 impl<'input, T: BorrowedInput<'input>> Iterator for Scanner<'input, T> {
     type Item = Result<Token<'input>, ScanError>;
@@ -517,7 +530,7 @@ impl<'input, T: BorrowedInput<'input>> Iterator for Scanner<'input, T> {
     ghost next_gives = { λ p r q. ScannerStepsTo T.unread T.left T.origin p r q };
 
     fn next(&mut self) -> Option<Result<Token<'input>, ScanError>> {
-        self.next_queued().transpose()
+        next_of(self.next_queued())
     }
 }
 

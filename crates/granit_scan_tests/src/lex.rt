@@ -1,9 +1,10 @@
 //! Each call once, also where no comments are asked for, and each kind of a wrong escape. The values and faults are the
 //! original's.
+use crate::agree::agree;
 use granit_base::{NoMemory, ScalarStyle, is_blank_or_breakz};
 use granit_cursor::{Cursor, Layout, Lexed, Token, TokenType};
 use granit_error::ScanError;
-use granit_input::{Input, StrInput};
+use granit_input::{BorrowedInput, Input, StrInput};
 use granit_lex::{scan_plain_scalar, scan_quoted_scalar};
 use std::alloc::Global;
 
@@ -109,9 +110,9 @@ fn tell<T: Tells + Drop>(alloc: Global, read: T, style: ScalarStyle, value: &str
 }
 
 /// What is told of the scalar that begins here, where one does.
-fn told_at(
+fn told_at<'a, T: BorrowedInput<'a>>(
     alloc: Global,
-    cursor: &mut Cursor<StrInput<'_>>,
+    cursor: &mut Cursor<T>,
     at: &Layout,
     style: ScalarStyle,
     value: &str,
@@ -191,7 +192,7 @@ fn first_otherwise(alloc: Global, rows: &[Refused]) -> Option<&'static str> {
 #[test]
 fn comments_are_lent(rt: HostRuntime) {
     let (_, note) = letters(rt.alloc(), "'a' #é", &with_comments());
-    assert_eq!(rt; note, 'l');
+    agree(&rt, note, 'l');
 }
 
 /// A text, and whether its scalar is lent.
@@ -217,7 +218,7 @@ const LENT: &[(&str, bool)] = &[
 
 #[test]
 fn texts_are_lent(rt: HostRuntime) {
-    assert_eq!(rt; first_lent_otherwise(rt.alloc(), LENT), None);
+    agree(&rt, first_lent_otherwise(rt.alloc(), LENT), None);
 }
 
 const VALUED: &[Valued] = &[
@@ -233,7 +234,7 @@ const VALUED: &[Valued] = &[
 
 #[test]
 fn scalars_are_read(rt: HostRuntime) {
-    assert_eq!(rt; first_of_another_value(rt.alloc(), VALUED), None);
+    agree(&rt, first_of_another_value(rt.alloc(), VALUED), None);
 }
 
 const REFUSED: &[Refused] = &[
@@ -250,5 +251,5 @@ const REFUSED: &[Refused] = &[
 
 #[test]
 fn scalars_are_refused(rt: HostRuntime) {
-    assert_eq!(rt; first_otherwise(rt.alloc(), REFUSED), None);
+    agree(&rt, first_otherwise(rt.alloc(), REFUSED), None);
 }

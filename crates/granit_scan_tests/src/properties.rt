@@ -1,4 +1,5 @@
 //! The worked rows of names and tags. The rows are the original's tokens and faults.
+use crate::agree::agree;
 use granit_base::Text;
 use granit_cursor::{Cursor, Token, TokenType};
 use granit_error::ScanError;
@@ -105,7 +106,7 @@ const NAMES: &[Row] = &[
 
 #[test]
 fn names(rt: HostRuntime) {
-    assert_eq!(rt; first_otherwise(rt.alloc(), NAMES), None);
+    agree(&rt, first_otherwise(rt.alloc(), NAMES), None);
 }
 
 const TAGS: &[Row] = &[
@@ -122,7 +123,7 @@ const TAGS: &[Row] = &[
 
 #[test]
 fn tags(rt: HostRuntime) {
-    assert_eq!(rt; first_otherwise(rt.alloc(), TAGS), None);
+    agree(&rt, first_otherwise(rt.alloc(), TAGS), None);
 }
 
 /// A text, and the kind by which it is refused where it begins.
@@ -153,5 +154,5 @@ fn first_not_refused(alloc: Global, rows: &[(&'static str, u8)]) -> Option<&'sta
 
 #[test]
 fn refused(rt: HostRuntime) {
-    assert_eq!(rt; first_not_refused(rt.alloc(), REFUSED), None);
+    agree(&rt, first_not_refused(rt.alloc(), REFUSED), None);
 }

@@ -1,7 +1,8 @@
 //! Whole reads of small texts. What stands in the texts was counted by hand.
+use crate::agree::agree;
 use granit_cursor::Cursor;
 use granit_error::{Options, ScanError};
-use granit_input::StrInput;
+use granit_input::{BorrowedInput, StrInput};
 use granit_items::{Found, Rooms};
 use granit_layout::Layouts;
 use granit_reader::{Met, next_found};
@@ -36,9 +37,9 @@ fn told<P: Place + Drop, F: Drop>(
 }
 
 /// Whether the next read finds a lexeme, and a comment; none where it is refused.
-fn read<'a>(
+fn read<'a, T: BorrowedInput<'a>>(
     alloc: Global,
-    cursor: &mut Cursor<StrInput<'a>>,
+    cursor: &mut Cursor<T>,
     layouts: &mut Layouts,
     ended: &mut bool,
 ) -> Option<(bool, bool)> {
@@ -62,9 +63,9 @@ fn read<'a>(
 
 /// How many lexemes stand behind a cursor, its end among them, and how many comments behind none of them; none where
 /// it is refused.
-fn counted<'a>(
+fn counted<'a, T: BorrowedInput<'a>>(
     alloc: Global,
-    cursor: &mut Cursor<StrInput<'a>>,
+    cursor: &mut Cursor<T>,
     layouts: &mut Layouts,
 ) -> Option<(usize, usize)> {
     let mut ended = false;
@@ -115,5 +116,5 @@ const ROWS: &[Row] = &[
 
 #[test]
 fn lexemes_of_each_kind(rt: HostRuntime) {
-    assert_eq!(rt; first_otherwise(rt.alloc(), ROWS), None);
+    agree(&rt, first_otherwise(rt.alloc(), ROWS), None);
 }

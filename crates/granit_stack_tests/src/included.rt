@@ -1,4 +1,5 @@
 //! Texts that are included in others.
+use crate::agree::agree;
 use crate::includes::{Asked, Case};
 use crate::pushes::Pushes;
 use crate::stack::of_texts;
@@ -38,13 +39,17 @@ fn refuses(alloc: Global, number: usize, text: &str, case: Case, words: &str) ->
 fn a_second_document(rt: HostRuntime) {
     let words = "multiple documents not supported here\
         \nwhile parsing root -> two at char 1 line 1 column 2";
-    assert!(rt; refuses(rt.alloc(), 1, "- x\n", Case::Second, words));
+    agree(
+        &rt,
+        refuses(rt.alloc(), 1, "- x\n", Case::Second, words),
+        true,
+    );
 }
 
 #[test]
 fn nobody_finds_includes(rt: HostRuntime) {
     let words = "No include resolver set for parser stack. at char 0 line 1 column 1";
-    assert!(rt; of_nothing(rt.alloc(), false, words).0);
+    agree(&rt, of_nothing(rt.alloc(), false, words).0, true);
 }
 
 #[test]
@@ -55,14 +60,18 @@ fn texts_that_are_refused(rt: HostRuntime) {
         refuses(rt.alloc(), 1, "x", Case::Bad, bad),
         refuses(rt.alloc(), 1, "x", Case::Missing, missing),
     ];
-    assert_eq!(rt; refused, [true; 2]);
+    agree(&rt, refused, [true; 2]);
 }
 
 #[test]
 fn no_number_is_left_for_an_include(rt: HostRuntime) {
     let words = "while parsing anchor, anchor count exceeded supported limit\
         \nwhile parsing root -> own at char 0 line 1 column 1";
-    assert!(rt; refuses(rt.alloc(), usize::MAX, "x", Case::Anchored, words));
+    agree(
+        &rt,
+        refuses(rt.alloc(), usize::MAX, "x", Case::Anchored, words),
+        true,
+    );
 }
 
 /// What is told behind a case.
@@ -89,12 +98,12 @@ fn included_texts(rt: HostRuntime) {
         ['S', 'D', 'b', 'd', 'D', 'c', 'd', 's', '.', '.'],
         ['S', 'D', 'x', 'd', 's', '.', '.', '.', '.', '.'],
     ];
-    assert_eq!(rt; [told, quiet, bottom, refused], wanted);
-    assert_eq!(rt; [ids[0], ids[1], quiet_ids[0]], [3, 2, 3]);
+    agree(&rt, [told, quiet, bottom, refused], wanted);
+    agree(&rt, [ids[0], ids[1], quiet_ids[0]], [3, 2, 3]);
 }
 
 #[test]
 fn sent_to_receivers(rt: HostRuntime) {
     let (letters, numbers) = behind(rt.alloc(), true, "- x\n", Case::Sent);
-    assert_eq!(rt; (letters[0], numbers[0], letters[1]), ('!', 3, 's'));
+    agree(&rt, (letters[0], numbers[0], letters[1]), ('!', 3, 's'));
 }

@@ -1,5 +1,6 @@
 //! Stacks of parsers. What names the types of parsers only hands them on, and two of them at most: a proof spells them
 //! out.
+use crate::agree::agree;
 use crate::includes::{Asked, Case, Seen, seen_of};
 use crate::pushes::{Pushes, of_events};
 use crate::told::{Told, nothing};
@@ -112,14 +113,18 @@ fn each_push_on_an_empty_stack(rt: HostRuntime) {
         ['S', 'D', 'x', 'd', 's', '.', '.', '.', '.', '.'],
         ['S', 'D', 'x', 'd', 's', '.', '.', '.', '.', '.'],
     ];
-    assert_eq!(rt; [string, characters, input, replay], wanted);
+    agree(&rt, [string, characters, input, replay], wanted);
 }
 
 #[test]
 fn three_kinds_on_one_another(rt: HostRuntime) {
     let (number, (events, ids)) = pushed(rt.alloc(), Pushes::Three, "&a s", "&b c", "&c i");
-    assert_eq!(rt; events, ['i', 's', 'd', 's', '.', '.', '.', '.', '.', '.']);
-    assert_eq!(rt; [number, ids[0], ids[1]], [3, 3, 1]);
+    agree(
+        &rt,
+        events,
+        ['i', 's', 'd', 's', '.', '.', '.', '.', '.', '.'],
+    );
+    agree(&rt, [number, ids[0], ids[1]], [3, 3, 1]);
 }
 
 #[test]
@@ -130,5 +135,5 @@ fn an_event_comes_first(rt: HostRuntime) {
         ['f', 'S', 'D', 'i', 'd', 's', '.', '.', '.', '.'],
         ['f', 'i', 'D', 'i', 'd', 's', '.', '.', '.', '.'],
     ];
-    assert_eq!(rt; [alone, above], wanted);
+    agree(&rt, [alone, above], wanted);
 }

@@ -18,7 +18,7 @@ use Rattle.granit_stepper.proofs.SettleLemmas.{settle_on}
 use Rattle.granit_stepper.proofs.SkipLemmas.{none_left}
 use Rattle.granit_stepper.proofs.StateLemmas.{next_is, waiting}
 use Rattle.granit_stepper.proofs.TurnLemmas.{suc_zero, turn_waits_on}
-use Rattle.granit_stepper.specs.Gathering.{GivesBehind}
+use Rattle.granit_stepper.specs.Gathering.{GathersBehind}
 use Rattle.granit_stepper.specs.Numbers.{GivesOr, RefusesNumber, TurnsTo, no_turn}
 use Rattle.granit_stepper.specs.Stepping.{Keeps, Stepping, StandsIn, first_events, turn_view}
 use Rattle.granit_steps.specs.Steps.{StepState, Turn, next_event, settle, step_size, step_turn}
@@ -167,7 +167,7 @@ module _ {I : Type 0} (unread : I → Unread → Type 0) (initial now after : St
   waits_by : (m u : StepState) (more : List PlainEvent) (Refuses : Refused → Type 0) → u.pending ≡ more
       → settle o u ≡ settle o (with_pending [] m)
       → StandsIn unread after (with_pending (m.pending ++ u.pending) u)
-      → length m.pending < length (m.pending ++ more) → GivesBehind (Ok true) (StandsIn unread after) o m Refuses
+      → length m.pending < length (m.pending ++ more) → GathersBehind (Ok true) (StandsIn unread after) o m Refuses
   waits_by m u [] Refuses is settles there many = absurd (some_more m.pending many)
   waits_by m u (e ∷ es) Refuses is settles there many = (
     u,
@@ -180,7 +180,7 @@ module _ {I : Type 0} (unread : I → Unread → Type 0) (initial now after : St
   pub behind_waits : TurnedEarly unread now (Ok true) after → after.first ≡ initial.first
       → length initial.parser.given < length after.parser.given → (m : StepState) → StandsIn unread initial m
       → initial.first ≡ None
-      → GivesBehind (Ok true) (StandsIn unread after) o m (RefusesNumber after.renumbered o (with_pending [] m))
+      → GathersBehind (Ok true) (StandsIn unread after) o m (RefusesNumber after.renumbered o (with_pending [] m))
   behind_waits turned first many = λ m at none.
       let n = behind m at none in
       let w = went true turned m at none in
@@ -195,7 +195,7 @@ module _ {I : Type 0} (unread : I → Unread → Type 0) (initial now after : St
   -- none is left to make
   pub behind_done : TurnedEarly unread now (Ok false) after → (m : StepState) → StandsIn unread initial m
       → initial.first ≡ None
-      → GivesBehind (Ok false) (StandsIn unread after) o m (RefusesNumber after.renumbered o (with_pending [] m))
+      → GathersBehind (Ok false) (StandsIn unread after) o m (RefusesNumber after.renumbered o (with_pending [] m))
   behind_done turned = λ m at none.
       let n = behind m at none in
       let w = went false turned m at none in
@@ -209,7 +209,7 @@ module _ {I : Type 0} (unread : I → Unread → Type 0) (initial now after : St
   -- one fails
   pub behind_fails : (e : Refused) → TurnedEarly unread now (Err e) after → (m : StepState)
       → StandsIn unread initial m → initial.first ≡ None
-      → GivesBehind (Err e) (StandsIn unread after) o m (RefusesNumber after.renumbered o (with_pending [] m))
+      → GathersBehind (Err e) (StandsIn unread after) o m (RefusesNumber after.renumbered o (with_pending [] m))
   behind_fails e turned = λ m at none.
       let n = behind m at none in
       let k = with_pending [] n.0 in

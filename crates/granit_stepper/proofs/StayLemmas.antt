@@ -11,7 +11,7 @@ use Rattle.granit_event.specs.declared.event.Event.{Event}
 use Rattle.granit_lexemes.specs.PlainEvent.{PlainEvent, StreamStart, event_on}
 use Rattle.granit_machine.specs.Frames.{ParserState}
 use Rattle.granit_stepper.specs.Stepping.{Stepping, first_events}
-use Rattle.granit_stepper.specs.Waiting.{AllTaken, GivesFirstOf, GivesFirstWaiting, StaysAtEnd, StaysBy, StaysTaken}
+use Rattle.granit_stepper.specs.Waiting.{AllTaken, GivesOldestOf, GivesFirstWaiting, StaysAtEnd, StaysBy, StaysTaken}
 use Rattle.granit_stepper.specs.Waiting.{StaysWaiting}
 
 -- an event of the parser waits, or nothing is left to take
@@ -89,7 +89,7 @@ module _ {I : Type 0} (s mid : Stepping I) (r : Option (Event × Span)) (p : Par
     (first : option_map plain_event r ≡ slice_get mid.parser.given 0)
     (rest : p ≡ record (mid.parser) { given = drop 1 mid.parser.given }) where
   pops_in : (u : Unit {0}) (es : List PlainEvent) → s.parser.given ≡ es → StaysBy tt es (Ok u) s mid → s.first ≡ None
-      → GivesFirstOf (option_map plain_event) es (Ok r) s (record mid { parser = p })
+      → GivesOldestOf (option_map plain_event) es (Ok r) s (record mid { parser = p })
   pops_in u [] is stays told = tt
   pops_in u (e ∷ es) is stays told =
       let waits : mid.parser.given ≡ e ∷ es = ap (λ (t : Stepping I). t.parser.given) stays.1 ∙ is in
@@ -106,7 +106,7 @@ module _ {I : Type 0} (s mid : Stepping I) (r : Option (Event × Span)) (p : Par
   pub pops_waiting : (u : Unit {0}) → StaysWaiting tt (Ok u) s mid → s.first ≡ None
       → GivesFirstWaiting (option_map plain_event) (Ok r) s (record mid { parser = p })
   pops_waiting u stays told = subst
-      (λ (f : Option Mark). GivesFirstOf (option_map plain_event) (first_events f ++ s.parser.given) (Ok r) s
+      (λ (f : Option Mark). GivesOldestOf (option_map plain_event) (first_events f ++ s.parser.given) (Ok r) s
       (record mid { parser = p })) (sym told) (pops_in u s.parser.given refl stays told)
 
   none_in : (r : Option (Event × Span)) → option_map plain_event r ≡ None → r ≡ None
@@ -130,7 +130,7 @@ module _ {I : Type 0} (s mid : Stepping I) (r : Option (Event × Span)) (p : Par
 
 module _ {I : Type 0} (s mid : Stepping I) (e : Refused) where
   refuses_in : {X : Type 0} (view : X → Option PlainEvent) (es : List PlainEvent) (r : Result X Refused)
-      (new : Stepping I) → StaysBy {X = Unit {0}} tt es (Err e) s mid → GivesFirstOf view es r s new
+      (new : Stepping I) → StaysBy {X = Unit {0}} tt es (Err e) s mid → GivesOldestOf view es r s new
   refuses_in view [] r new stays = tt
   refuses_in view (x ∷ es) r new stays = absurd (let clash = stays.0 in cc)
 
@@ -138,7 +138,7 @@ module _ {I : Type 0} (s mid : Stepping I) (e : Refused) where
   pub refuses_none : {X : Type 0} (view : X → Option PlainEvent) (r : Result X Refused) (new : Stepping I)
       → StaysWaiting {X = Unit {0}} tt (Err e) s mid → s.first ≡ None → GivesFirstWaiting view r s new
   refuses_none view r new stays told = subst
-      (λ (f : Option Mark). GivesFirstOf view (first_events f ++ s.parser.given) r s new) (sym told)
+      (λ (f : Option Mark). GivesOldestOf view (first_events f ++ s.parser.given) r s new) (sym told)
       (refuses_in view s.parser.given r new stays)
 
 -- the start of the stream is the first
@@ -146,5 +146,5 @@ pub start_first : {I : Type 0} (s : Stepping I) (start : Mark) (x : Event × Spa
     → plain_event x ≡ event_on StreamStart start
     → GivesFirstWaiting (option_map plain_event) (Ok (Some x)) s (record s { first = None })
 start_first s start x is told = subst
-    (λ (f : Option Mark). GivesFirstOf (option_map plain_event) (first_events f ++ s.parser.given) (Ok (Some x)) s
+    (λ (f : Option Mark). GivesOldestOf (option_map plain_event) (first_events f ++ s.parser.given) (Ok (Some x)) s
     (record s { first = None })) (sym is) (ap Some told, refl)

@@ -26,16 +26,16 @@ StaysBy x (e ∷ es) result old new = (result ≡ Ok x) × (new ≡ old)
 abbrev pub StaysWaiting : {I X : Type 0} → X → Result X Refused → (old new : Stepping I) → Type 0
 StaysWaiting x result old new = StaysBy x old.parser.given result old new
 
-abbrev pub GivesFirstOf : {I X : Type 0} → (X → Option PlainEvent) → List PlainEvent → Result X Refused
+abbrev pub GivesOldestOf : {I X : Type 0} → (X → Option PlainEvent) → List PlainEvent → Result X Refused
     → (old new : Stepping I) → Type 0
-GivesFirstOf view [] result old new = Unit {0}
-GivesFirstOf view (e ∷ es) (Ok x) old new = (view x ≡ Some e) × (new ≡ with_waiting es old)
-GivesFirstOf view (e ∷ es) (Err f) old new = ⊥
+GivesOldestOf view [] result old new = Unit {0}
+GivesOldestOf view (e ∷ es) (Ok x) old new = (view x ≡ Some e) × (new ≡ with_waiting es old)
+GivesOldestOf view (e ∷ es) (Err f) old new = ⊥
 
 -- the first event that waits is given, where one does: it goes, and nothing else changes
 abbrev pub GivesFirstWaiting : {I X : Type 0} → (X → Option PlainEvent) → Result X Refused → (old new : Stepping I)
     → Type 0
-GivesFirstWaiting view result old new = GivesFirstOf view (waiting_events old) result old new
+GivesFirstWaiting view result old new = GivesOldestOf view (waiting_events old) result old new
 
 -- ---- where nothing is left
 

@@ -5,7 +5,7 @@ ghost use Rattle.granit_error.specs.FaultKind as faults;
 ghost use Rattle.granit_event.specs.Events.{plain_event, plain_events};
 ghost use Rattle.granit_refused.specs.Answered.{answered, why};
 ghost use Rattle.granit_restart.specs.Skipping.{with_pending};
-ghost use Rattle.granit_stepper.specs.Gathering.{GivesBehind};
+ghost use Rattle.granit_stepper.specs.Gathering.{GathersBehind};
 ghost use Rattle.granit_stepper.specs.Numbers.{RefusesNumber};
 ghost use Rattle.granit_stepper.specs.Stepping.{Keeps, StandsIn};
 ghost use Rattle.granit_stepper.specs.Waiting.{StaysTaken};
@@ -33,7 +33,7 @@ impl<'input, T: BorrowedInput<'input>> Stepper<'input, T> {
         fault: &mut Option<ScanError>,
     ) -> Result<bool, Refused>
         ensures known { (m : StepState) → StandsIn T.unread self.old m → self.old.first ≡ None
-            → GivesBehind (answered fault.new result) (StandsIn T.unread self.new) self.old.scanner.options m
+            → GathersBehind (answered fault.new result) (StandsIn T.unread self.new) self.old.scanner.options m
             (RefusesNumber self.old.renumbered self.old.scanner.options (with_pending [] m)) }
         ensures first { self.new.first ≡ self.old.first }
         ensures failed { IfErr result (λ r. self.new.failed ≡ true) }
@@ -71,7 +71,7 @@ impl<'input, T: BorrowedInput<'input>> Stepper<'input, T> {
         fault: &mut Option<ScanError>,
     ) -> Result<bool, Refused>
         ensures known { (m : StepState) → StandsIn T.unread self.old m → self.old.first ≡ None
-            → GivesBehind (answered fault.new result) (StandsIn T.unread self.new) self.old.scanner.options m
+            → GathersBehind (answered fault.new result) (StandsIn T.unread self.new) self.old.scanner.options m
             (RefusesNumber self.new.renumbered self.old.scanner.options (with_pending [] m)) }
         ensures ended { StaysTaken false (answered fault.new result) self.old self.new }
         ensures keeps { Keeps self.old self.new }

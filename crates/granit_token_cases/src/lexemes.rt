@@ -6,7 +6,7 @@ use anyhow::{Context, Result};
 use granit_base::{Marker, is_blank_or_breakz};
 use granit_cursor::Token;
 use granit_error::ScanError;
-use granit_input::{Input, StrInput};
+use granit_input::{BorrowedInput, Input};
 use granit_lex::{Cursor, Layout, Lexed, scan_comment, scan_plain_scalar, scan_quoted_scalar};
 use serde_json::Value;
 use std::alloc::Global;
@@ -53,12 +53,8 @@ impl<'a> Lexeme for Result<Lexed<'a>, ScanError> {
 }
 
 /// The same of what is let go here, which is cheap to prove in a generic function.
-fn push<T: Lexeme + Drop>(
-    line: &mut String,
-    lexeme: T,
-    cursor: &Cursor<StrInput<'_>>,
-) -> Result<()> {
-    lexeme.push(line, cursor.mark())
+fn push<T: Lexeme + Drop>(line: &mut String, lexeme: T, stands: Marker) -> Result<()> {
+    lexeme.push(line, stands)
 }
 
 /// Where the cursor then stands.
@@ -90,24 +86,24 @@ fn push_no_lexeme(line: &mut String) -> Result<()> {
 }
 
 /// The comment that begins where the cursor stands, where one does.
-fn push_comment<'a>(
+fn push_comment<'a, T: BorrowedInput<'a>>(
     alloc: Global,
     line: &mut String,
-    cursor: &mut Cursor<StrInput<'a>>,
+    cursor: &mut Cursor<T>,
 ) -> Result<()> {
     cursor.look(1);
     if cursor.input().peek() != '#' {
         return push_no_lexeme(line);
     }
     let comment = scan_comment(alloc, cursor);
-    push(line, comment, cursor)
+    push(line, comment, cursor.mark())
 }
 
 /// The plain scalar that begins where the cursor stands, where one does.
-fn push_plain<'a>(
+fn push_plain<'a, T: BorrowedInput<'a>>(
     alloc: Global,
     line: &mut String,
-    cursor: &mut Cursor<StrInput<'a>>,
+    cursor: &mut Cursor<T>,
     at: &Layout,
 ) -> Result<()> {
     cursor.look(2);
@@ -117,27 +113,45 @@ fn push_plain<'a>(
         return push_no_lexeme(line);
     }
     let scalar = scan_plain_scalar(alloc, cursor, at);
-    push(line, scalar, cursor)
+    push(line, scalar, cursor.mark())
 }
 
 /// The quoted scalar that begins where the cursor stands, where one does.
-fn push_quoted<'a>(
+fn push_quoted<'a, T: BorrowedInput<'a>>(
     alloc: Global,
     line: &mut String,
-    cursor: &mut Cursor<StrInput<'a>>,
+    cursor: &mut Cursor<T>,
     at: &Layout,
 ) -> Result<()> {
     cursor.look(1);
     match cursor.input().peek() {
         '\'' => {
             let scalar = scan_quoted_scalar(alloc, cursor, true, at);
-            push(line, scalar, cursor)
+            push(line, scalar, cursor.mark())
         }
         '"' => {
             let scalar = scan_quoted_scalar(alloc, cursor, false, at);
-            push(line, scalar, cursor)
+            push(line, scalar, cursor.mark())
         }
         _ => push_no_lexeme(line),
+    }
+}
+
+/// The lexeme where the cursor stands: a quoted scalar, a comment, or a plain scalar.
+fn push_lexeme<'a, T: BorrowedInput<'a>>(
+    alloc: Global,
+    line: &mut String,
+    cursor: &mut Cursor<T>,
+    at: &Layout,
+    is_quoted: bool,
+    around: &str,
+) -> Result<()> {
+    if is_quoted {
+        push_quoted(alloc, line, cursor, at)
+    } else if around == "comment" {
+        push_comment(alloc, line, cursor)
+    } else {
+        push_plain(alloc, line, cursor, at)
     }
 }
 
@@ -149,14 +163,9 @@ fn push_list(alloc: Global, line: &mut String, case: &Value) -> Result<()> {
     let text = case.get(3).and_then(Value::as_str).context("a text")?;
     let tab_column = case.get(5).and_then(Value::as_u64).unwrap_or(0);
     let at = layout(column, tab_column as usize, around);
+    let is_quoted = case.get(4).is_some();
     let mut cursor = cursor_at(text, index as usize);
-    if case.get(4).is_some() {
-        push_quoted(alloc, line, &mut cursor, &at)
-    } else if around == "comment" {
-        push_comment(alloc, line, &mut cursor)
-    } else {
-        push_plain(alloc, line, &mut cursor, &at)
-    }
+    push_lexeme(alloc, line, &mut cursor, &at, is_quoted, around)
 }
 
 /// Writes what is printed for a case.

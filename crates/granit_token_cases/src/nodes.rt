@@ -8,7 +8,7 @@ use granit_block::scan_block_scalar;
 use granit_cursor::{Cursor, Layout, Lexed, Token};
 use granit_directives::scan_directive;
 use granit_error::{Options, ScanError};
-use granit_input::{Input, StrInput};
+use granit_input::{BorrowedInput, Input};
 use granit_properties::{scan_anchor, scan_tag};
 use serde_json::Value;
 use std::alloc::Global;
@@ -76,10 +76,10 @@ fn push_lexed(line: &mut String, lexed: &Lexed<'_>) -> Result<()> {
 }
 
 /// The lexeme of that kind where the cursor stands.
-fn push_lexeme<'a>(
+fn push_lexeme<'a, T: BorrowedInput<'a>>(
     alloc: Global,
     line: &mut String,
-    cursor: &mut Cursor<StrInput<'a>>,
+    cursor: &mut Cursor<T>,
     kind: &str,
     column: &str,
 ) -> Result<()> {

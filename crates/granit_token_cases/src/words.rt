@@ -3,14 +3,19 @@ use anyhow::Result;
 use granit_base::{Marker, Placement, ScalarStyle, Span, Text, TextList};
 use granit_cursor::{Comment, Cursor, Token, TokenType};
 use granit_error::ScanError;
-use granit_input::StrInput;
+use granit_input::{Input, StrInput};
+
+/// Passes that many characters. What is generic in the input is cheap to prove.
+fn pass<T: Input>(cursor: &mut Cursor<T>, count: usize) {
+    for _ in 0..count {
+        cursor.step();
+    }
+}
 
 /// A cursor that many characters into a text.
 pub fn cursor_at<'a>(text: &'a str, index: usize) -> Cursor<StrInput<'a>> {
     let mut cursor = Cursor::new(StrInput::new(text));
-    for _ in 0..index {
-        cursor.step();
-    }
+    pass(&mut cursor, index);
     cursor
 }
 

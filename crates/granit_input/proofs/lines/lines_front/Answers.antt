@@ -3,14 +3,14 @@ use Rattle.std.proofs.Common.{◌∙◌, inl, inr, refl, arith}
 use Rattle.std.specs.Str.{chars}
 use Rattle.std.proofs.lemmas.Str.{is_utf8-from_IsUtf8}
 use Rattle.granit_base.specs.Place.{first}
-use Rattle.granit_input.specs.Lines.{is_line_gap, is_visible, line_feeds, column_behind}
+use Rattle.granit_input.specs.Lines.{is_line_gap, is_visible, feed_count, column_behind}
 use Rattle.granit_input.specs.Runs.{starts}
 use Rattle.granit_input.proofs.AsciiLemmas.{ascii_none}
 use Rattle.granit_input.proofs.LineLemmas.{fed, begins_fed, visible_there, visible_whole}
 use Rattle.granit_input.proofs.lines.lines_front.Goals as goal
 
 pub lines-init : goal.lines-init
-unfolding line_feeds column_behind
+unfolding feed_count column_behind
 lines-init c = record {
   front = ascii_none (starts is_line_gap) c.args.s.now (is_utf8-from_IsUtf8 c.args.s.now c.utf8.s);
   lines = refl;

@@ -2,14 +2,14 @@ use Rattle.std.proofs.Common.{◌≡◌, ◌≤◌, ◌-◌, ◌⊎◌, length, 
 use Rattle.std.specs.Str.{chars}
 use Rattle.granit_base.specs.Place.{first}
 use Rattle.granit_input.specs.Cuts.{IsAsciiFront}
-use Rattle.granit_input.specs.Lines.{is_line_gap, line_feeds, column_behind}
+use Rattle.granit_input.specs.Lines.{is_line_gap, feed_count, column_behind}
 use Rattle.granit_input.specs.Runs.{starts}
 use Rattle.granit_input.proofs.lines.lines_front.Given as goal
 
 abbrev pub invariant-lines : goal.invariant-lines
 invariant-lines l = record {
   front : IsAsciiFront (starts is_line_gap) l.s l.at;
-  lines : l.lines ≡ line_feeds (take l.at (chars l.s));
+  lines : l.lines ≡ feed_count (take l.at (chars l.s));
   spaces : l.spaces ≡ column_behind 0 (take l.at (chars l.s));
   begins : (l.at ≡ 0) ⊎ (first (chars l.s) ≡ 0x0A);
   few : l.lines ≤ l.at;

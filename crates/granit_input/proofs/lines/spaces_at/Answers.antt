@@ -1,7 +1,7 @@
 use Rattle.std.proofs.Common.{◌≡◌, ◌+◌, ◌<◌, ℕ, suc, List, length, take, slice_index, sym, ap, subst, ◌∙◌, arith}
 use Rattle.std.specs.Str.{chars}
 use Rattle.granit_input.specs.Cuts.{IsAsciiFront}
-use Rattle.granit_input.specs.Lines.{is_line_gap, line_feeds, column_behind}
+use Rattle.granit_input.specs.Lines.{is_line_gap, feed_count, column_behind}
 use Rattle.granit_input.specs.Runs.{starts}
 use Rattle.granit_input.proofs.LineLemmas.{spaced}
 use Rattle.granit_input.proofs.lines.spaces_at.Goals as goal
@@ -22,7 +22,7 @@ spaces-preserved c =
     omega arith in
     record {
       front = subst (λ (k : ℕ). IsAsciiFront (starts is_line_gap) s k) place next.front;
-      lines = ap (λ (k : ℕ). line_feeds (take k (chars s))) (sym place) ∙ next.lines ∙ so_far.lines;
+      lines = ap (λ (k : ℕ). feed_count (take k (chars s))) (sym place) ∙ next.lines ∙ so_far.lines;
       spaces = ap (λ (k : ℕ). column_behind 0 (take k (chars s))) (sym place) ∙ next.column ∙ ap suc so_far.spaces
           ∙ more;
     }

@@ -1,14 +1,14 @@
 use Rattle.std.proofs.Common.{◌≡◌, ◌+◌, ◌-◌, length, take}
 use Rattle.std.specs.Str.{chars}
 use Rattle.granit_input.specs.Cuts.{IsAsciiFront}
-use Rattle.granit_input.specs.Lines.{is_line_gap, line_feeds, column_behind}
+use Rattle.granit_input.specs.Lines.{is_line_gap, feed_count, column_behind}
 use Rattle.granit_input.specs.Runs.{starts}
 use Rattle.granit_input.proofs.lines.spaces_at.Given as goal
 
 abbrev pub invariant-spaces : goal.invariant-spaces
 invariant-spaces l = record {
   front : IsAsciiFront (starts is_line_gap) l.s (l.from + l.count);
-  lines : line_feeds (take (l.from + l.count) (chars l.s)) ≡ line_feeds (take l.from (chars l.s));
+  lines : feed_count (take (l.from + l.count) (chars l.s)) ≡ feed_count (take l.from (chars l.s));
   spaces : column_behind 0 (take (l.from + l.count) (chars l.s))
       ≡ column_behind 0 (take l.from (chars l.s)) + l.count;
 }

@@ -19,6 +19,7 @@ returns g c = λ m f at ends fresh never.
     c.placed-in-Some.result c.is_lost-in-Some.result c.placed-in-Some.ensures c.is_lost-in-Some.ensures
     (λ start before. c.in-Some.ensures.onward start (c.in-Ok.ensures.onward start before))
     (sym (c.in-Some.ensures.told f (goes.ends_with f ends) (goes.handed_out ∙ fresh))) c.in-Some.ensures.place
+    (c.in-Some.ensures.offset ∙ goes.tells_offset)
 
 pub returns-in-Err : goal.returns-in-Err
 returns-in-Err g c = λ m f at ends fresh never.

@@ -1,4 +1,4 @@
-use Rattle.std.proofs.Common.{ap, is_some, ◌∙◌}
+use Rattle.std.proofs.Common.{ap, is_some, refl, ◌∙◌}
 use Rattle.granit_buffered.specs.Fallible.{characters_of, first_error}
 use Rattle.granit_buffered.specs.FallibleLaws.{comes_to_its_error, error_ends}
 use Rattle.granit_error.specs.OptionsView.{options_of}
@@ -26,4 +26,4 @@ returns g c = λ items known.
     let kept = goes.ends_with (first_error items) ends in
     let ended = error_ends feed.progress (ap is_some failed) in
     comes_to_its_error g.T.Iterator.next_gives g.T.Iterator.remaining feed.progress feed.iterator kept.0
-    (first_error items) ended kept.1 ∙ failed)
+    (first_error items) ended kept.1 ∙ failed) refl

@@ -1,7 +1,14 @@
-use Rattle.std.proofs.Common.{◌∙◌, Ok, sym, ap}
+use Rattle.std.proofs.Common.{◌∙◌, Ok, sym, ap, subst}
+use Rattle.granit_error.specs.OptionsView.{options_of}
+use Rattle.granit_frames.specs.Refusing.{RefusesByFault}
 use Rattle.granit_items.specs.declared.item.Lexeme.{Lexeme}
 use Rattle.granit_machine.specs.Frames.{ParserState}
+use Rattle.granit_machine.specs.Leaving.{LeavesIfRoom}
+use Rattle.granit_machine.specs.NodeSteps.{Stepped}
+use Rattle.granit_nodes.proofs.BareLemmas.{as_bare_colon}
 use Rattle.granit_nodes.proofs.nodes.bare.Goals as goal
+use Rattle.granit_refused.specs.Answered.{answered}
+use Rattle.granit_sorts.specs.SortViews.{machine_token}
 
 pub returns-in-Scalar-clause-leaves : goal.returns-in-Scalar-clause-leaves
 returns-in-Scalar-clause-leaves c =
@@ -9,82 +16,18 @@ returns-in-Scalar-clause-leaves c =
     rw (kind, sym c.deref_mut.ensures.value)
     (ap (λ (p : ParserState). Ok p) (sym (rw c.deref.ensures at c.in_ok-leaf-in-Scalar.ensures.leaves)))
 
-pub returns-in-Version-clause-leaves : goal.returns-in-Version-clause-leaves
-returns-in-Version-clause-leaves c =
-    let kind = sym (c.in-Version.ensures.value ∙ ap (λ (l : Lexeme). l.kind) c.deref_mut.ensures.value) in
-    rw kind (rw c.deref_mut.ensures.value at c.first_colon.ensures.leaves)
-
-pub returns-in-Version-clause-by_fault : goal.returns-in-Version-clause-by_fault
-returns-in-Version-clause-by_fault c =
-    let kind = sym (c.in-Version.ensures.value ∙ ap (λ (l : Lexeme). l.kind) c.deref_mut.ensures.value) in
-    rw kind (rw c.deref_mut.ensures.value at c.first_colon.ensures.by_fault)
-
-pub returns-in-TagPrefix-clause-leaves : goal.returns-in-TagPrefix-clause-leaves
-returns-in-TagPrefix-clause-leaves c =
-    let kind = sym (c.in-TagPrefix.ensures.value ∙ ap (λ (l : Lexeme). l.kind) c.deref_mut.ensures.value) in
-    rw kind (rw c.deref_mut.ensures.value at c.first_colon-in-TagPrefix.ensures.leaves)
-
-pub returns-in-TagPrefix-clause-by_fault : goal.returns-in-TagPrefix-clause-by_fault
-returns-in-TagPrefix-clause-by_fault c =
-    let kind = sym (c.in-TagPrefix.ensures.value ∙ ap (λ (l : Lexeme). l.kind) c.deref_mut.ensures.value) in
-    rw kind (rw c.deref_mut.ensures.value at c.first_colon-in-TagPrefix.ensures.by_fault)
-
-pub returns-in-Reserved-clause-leaves : goal.returns-in-Reserved-clause-leaves
-returns-in-Reserved-clause-leaves c =
-    let kind = sym (c.in-Reserved.ensures.value ∙ ap (λ (l : Lexeme). l.kind) c.deref_mut.ensures.value) in
-    rw kind (rw c.deref_mut.ensures.value at c.first_colon-in-Reserved.ensures.leaves)
-
-pub returns-in-Reserved-clause-by_fault : goal.returns-in-Reserved-clause-by_fault
-returns-in-Reserved-clause-by_fault c =
-    let kind = sym (c.in-Reserved.ensures.value ∙ ap (λ (l : Lexeme). l.kind) c.deref_mut.ensures.value) in
-    rw kind (rw c.deref_mut.ensures.value at c.first_colon-in-Reserved.ensures.by_fault)
-
-pub returns-in-DocumentStart-clause-leaves : goal.returns-in-DocumentStart-clause-leaves
-returns-in-DocumentStart-clause-leaves c =
-    let kind = sym (c.in-DocumentStart.ensures.value ∙ ap (λ (l : Lexeme). l.kind) c.deref_mut.ensures.value) in
-    rw kind (rw c.deref_mut.ensures.value at c.first_colon-in-DocumentStart.ensures.leaves)
-
-pub returns-in-DocumentStart-clause-by_fault : goal.returns-in-DocumentStart-clause-by_fault
-returns-in-DocumentStart-clause-by_fault c =
-    let kind = sym (c.in-DocumentStart.ensures.value ∙ ap (λ (l : Lexeme). l.kind) c.deref_mut.ensures.value) in
-    rw kind (rw c.deref_mut.ensures.value at c.first_colon-in-DocumentStart.ensures.by_fault)
-
-pub returns-in-DocumentEnd-clause-leaves : goal.returns-in-DocumentEnd-clause-leaves
-returns-in-DocumentEnd-clause-leaves c =
-    let kind = sym (c.in-DocumentEnd.ensures.value ∙ ap (λ (l : Lexeme). l.kind) c.deref_mut.ensures.value) in
-    rw kind (rw c.deref_mut.ensures.value at c.first_colon-in-DocumentEnd.ensures.leaves)
-
-pub returns-in-DocumentEnd-clause-by_fault : goal.returns-in-DocumentEnd-clause-by_fault
-returns-in-DocumentEnd-clause-by_fault c =
-    let kind = sym (c.in-DocumentEnd.ensures.value ∙ ap (λ (l : Lexeme). l.kind) c.deref_mut.ensures.value) in
-    rw kind (rw c.deref_mut.ensures.value at c.first_colon-in-DocumentEnd.ensures.by_fault)
-
-pub returns-in-StreamEnd-clause-leaves : goal.returns-in-StreamEnd-clause-leaves
-returns-in-StreamEnd-clause-leaves c =
-    let kind = sym (c.in-StreamEnd.ensures.value ∙ ap (λ (l : Lexeme). l.kind) c.deref_mut.ensures.value) in
-    rw kind (rw c.deref_mut.ensures.value at c.first_colon-in-StreamEnd.ensures.leaves)
-
-pub returns-in-StreamEnd-clause-by_fault : goal.returns-in-StreamEnd-clause-by_fault
-returns-in-StreamEnd-clause-by_fault c =
-    let kind = sym (c.in-StreamEnd.ensures.value ∙ ap (λ (l : Lexeme). l.kind) c.deref_mut.ensures.value) in
-    rw kind (rw c.deref_mut.ensures.value at c.first_colon-in-StreamEnd.ensures.by_fault)
-
-pub returns-in-Close-clause-leaves : goal.returns-in-Close-clause-leaves
-returns-in-Close-clause-leaves c =
-    let kind = sym (c.in-Close.ensures.value ∙ ap (λ (l : Lexeme). l.kind) c.deref_mut.ensures.value) in
-    rw kind (rw c.deref_mut.ensures.value at c.first_colon-in-Close.ensures.leaves)
-
-pub returns-in-Close-clause-by_fault : goal.returns-in-Close-clause-by_fault
-returns-in-Close-clause-by_fault c =
-    let kind = sym (c.in-Close.ensures.value ∙ ap (λ (l : Lexeme). l.kind) c.deref_mut.ensures.value) in
-    rw kind (rw c.deref_mut.ensures.value at c.first_colon-in-Close.ensures.by_fault)
-
-pub returns-in-Comma-clause-leaves : goal.returns-in-Comma-clause-leaves
-returns-in-Comma-clause-leaves c =
-    let kind = sym (c.in-Comma.ensures.value ∙ ap (λ (l : Lexeme). l.kind) c.deref_mut.ensures.value) in
-    rw kind (rw c.deref_mut.ensures.value at c.first_colon-in-Comma.ensures.leaves)
-
-pub returns-in-Comma-clause-by_fault : goal.returns-in-Comma-clause-by_fault
-returns-in-Comma-clause-by_fault c =
-    let kind = sym (c.in-Comma.ensures.value ∙ ap (λ (l : Lexeme). l.kind) c.deref_mut.ensures.value) in
-    rw kind (rw c.deref_mut.ensures.value at c.first_colon-in-Comma.ensures.by_fault)
+pub returns : goal.returns
+returns c =
+    let kind = c.replace.ensures.value ∙ ap (λ (l : Lexeme). l.kind) c.deref_mut.ensures.value in
+    let as_colon = sym (as_bare_colon (options_of c.args.options.now) (machine_token c.args.token.now)
+    c.args.state.now c.replace.result c.args.token.now.lexeme.value.kind kind c.in_default.not-Open
+    c.in_default.not-Dash c.in_default.not-Question c.in_default.not-Alias c.in_default.not-Anchor
+    c.in_default.not-Tag c.in_default.not-Scalar) in
+    let result = answered c.first_colon.new.fault c.first_colon.result in
+    record {
+      leaves = subst (λ (r : Stepped). LeavesIfRoom result c.first_colon.new.state r) as_colon
+          (rw c.deref_mut.ensures.value at c.first_colon.ensures.leaves);
+      by_fault = subst (λ (r : Stepped). RefusesByFault result r) as_colon
+          (rw c.deref_mut.ensures.value at c.first_colon.ensures.by_fault);
+      kept = c.first_colon.ensures.kept;
+    }

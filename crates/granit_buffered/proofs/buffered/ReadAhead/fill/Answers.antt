@@ -16,13 +16,13 @@ fill-init g c = record {
 
 pub fill-preserved : goal.fill-preserved
 fill-preserved g c =
-    let grown : c.hold.new.held.items ≡ c.fill.self.held.items ++ c.in-Some.c ∷ [] = rw c.hold.ensures refl in
-    let len : length c.hold.new.held.items ≡ length c.fill.self.held.items + 1 = ap length grown ∙ length-append _ _ in
+    let grown : c.push_back.new.self ≡ c.fill.self.held ++ c.in-Some.c ∷ [] = rw c.push_back.ensures refl in
+    let len : length c.push_back.new.self ≡ length c.fill.self.held + 1 = ap length grown ∙ length-append _ _ in
     record {
       told = λ xs fault k.
           let h = c.fill.invariant.told xs fault k in
           let turn = c.in-Some.ensures.told h.0 fault h.2 in
-          holds_more g.F.Feed.told c.next_char.new.self c.fill.self.held.items c.hold.new.held.items h.0 turn.0 xs
+          holds_more g.F.Feed.told c.next_char.new.self c.fill.self.held c.push_back.new.self h.0 turn.0 xs
           fault c.in-Some.c h.1 turn.1 grown turn.2;
       left = omega (arith, c.fill.invariant.left, c.in-Some.ensures.bound, len);
       window = c.fill.invariant.window;
@@ -35,7 +35,7 @@ pub returns-in-None-clause-told : goal.returns-in-None-clause-told
 returns-in-None-clause-told g c = λ xs fault k.
     let h = c.fill.invariant.told xs fault k in
     let none = c.in-None.ensures.told h.0 fault h.2 in
-    ([], h.1 ∙ ap (λ (rest : List ℕ). c.fill.self.held.items ++ rest) none.0, none.1)
+    ([], h.1 ∙ ap (λ (rest : List ℕ). c.fill.self.held ++ rest) none.0, none.1)
 
 pub returns-in-None-clause-left : goal.returns-in-None-clause-left
 returns-in-None-clause-left g c =
@@ -46,10 +46,10 @@ pub returns-in-None-clause-goes : goal.returns-in-None-clause-goes
 returns-in-None-clause-goes g c = goes_known _ _ _ _ _ _ _ _
     (goes_on _ _ _ c.fill.invariant.goes c.next_char.ensures.goes)
     (λ fault ends.
-    let h = c.fill.invariant.told (c.args.self.now.held.items ++ ends.0) fault (ends.0, refl, ends.1) in
+    let h = c.fill.invariant.told (c.args.self.now.held ++ ends.0) fault (ends.0, refl, ends.1) in
     ([], (c.in-None.ensures.told h.0 fault h.2).1))
 
 pub returns-clause-goes : goal.returns-clause-goes
 returns-clause-goes g c = goes_known _ _ _ _ _ _ _ _ c.fill.invariant.goes
     (λ fault ends.
-    let h = c.fill.invariant.told (c.args.self.now.held.items ++ ends.0) fault (ends.0, refl, ends.1) in (h.0, h.2))
+    let h = c.fill.invariant.told (c.args.self.now.held ++ ends.0) fault (ends.0, refl, ends.1) in (h.0, h.2))

@@ -10,10 +10,10 @@ returns-then-takes-clause-read g c = λ u k.
     let s = c.args.self.now in
     let ch = c.in-Some.c in
     let steps = c.in-Some.ensures.told in
-    let is = fed_is_first g.F.Feed.told s.feed c.next_char.new.self ch s.held.items u c.requires steps k in (
+    let is = fed_is_first g.F.Feed.told s.feed c.next_char.new.self ch s.held u c.requires steps k in (
       sym (ap first is.1),
       ap (taker_test c.args.taker) is.1 ∙ c.takes.ensures.takes c.if-takes.true is.0,
-      feed_passed g.F.Feed.told s.feed c.next_char.new.self (Some ch) s.held.items u c.requires steps k,
+      feed_passed g.F.Feed.told s.feed c.next_char.new.self (Some ch) s.held u c.requires steps k,
     )
 
 pub returns-else-takes-clause-read : goal.returns-else-takes-clause-read
@@ -21,8 +21,8 @@ returns-else-takes-clause-read g c = λ u k.
     let s = c.args.self.now in
     let ch = c.in-Some.c in
     let steps = c.in-Some.ensures.told in
-    let is = fed_is_first g.F.Feed.told s.feed c.next_char.new.self ch s.held.items u c.requires steps k in
-    let grown : c.hold.new.held.items ≡ s.held.items ++ ch ∷ [] = rw c.hold.ensures refl in
+    let is = fed_is_first g.F.Feed.told s.feed c.next_char.new.self ch s.held u c.requires steps k in
+    let grown : c.push_back.new.self ≡ s.held ++ ch ∷ [] = rw c.push_back.ensures refl in
     let h = k.2.1 in
     let one = steps h.0 k.2.0 h.2 in (
       tells_of_text c.args.taker ch is.0 u.text is.1 (c.takes.ensures.ends c.if-takes.false),
@@ -31,7 +31,7 @@ returns-else-takes-clause-read g c = λ u k.
         k.1,
         (
           k.2.0,
-          holds_more g.F.Feed.told c.next_char.new.self s.held.items c.hold.new.held.items h.0 one.0 u.text k.2.0 ch
+          holds_more g.F.Feed.told c.next_char.new.self s.held c.push_back.new.self h.0 one.0 u.text k.2.0 ch
               h.1 one.1 grown one.2,
         ),
       ),
@@ -41,7 +41,7 @@ pub returns-in-None-clause-read : goal.returns-in-None-clause-read
 returns-in-None-clause-read g c = λ u k.
     let h = k.2.1 in
     let none = c.in-None.ensures.told h.0 k.2.0 h.2 in
-    let held = ap (λ (rest : List ℕ). c.args.self.now.held.items ++ rest) none.0 in
+    let held = ap (λ (rest : List ℕ). c.args.self.now.held ++ rest) none.0 in
     let over : u.text ≡ [] = h.1 ∙ held ∙ ap (λ (front : List ℕ). front ++ []) c.requires in (
       λ alone. ap (taker_test c.args.taker) over ∙ taker_nul c.args.taker,
       (k.0, k.1, (k.2.0, ([], h.1 ∙ held, none.1))),

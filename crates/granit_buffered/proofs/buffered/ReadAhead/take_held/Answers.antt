@@ -8,7 +8,7 @@ use Rattle.granit_buffered.proofs.buffered.ReadAhead.take_held.Goals as goal
 pub returns-then-takes-clause-read : goal.returns-then-takes-clause-read
 returns-then-takes-clause-read g c = λ u k.
     let s = c.args.self.now in
-    let is = held_is_first g.F.Feed.told s.feed s.held.items c.held_at-c.result u c.requires c.held_at-c.ensures.value
+    let is = held_is_first g.F.Feed.told s.feed s.held c.peek-c.result u c.requires c.peek-c.ensures.value
     k in (
       sym (ap first is.1),
       ap (taker_test c.args.taker) is.1 ∙ c.takes.ensures.takes c.if-takes.true is.0,
@@ -18,6 +18,6 @@ returns-then-takes-clause-read g c = λ u k.
 pub returns-else-takes-clause-read : goal.returns-else-takes-clause-read
 returns-else-takes-clause-read g c = λ u k.
     let s = c.args.self.now in
-    let is = held_is_first g.F.Feed.told s.feed s.held.items c.held_at-c.result u c.requires c.held_at-c.ensures.value
+    let is = held_is_first g.F.Feed.told s.feed s.held c.peek-c.result u c.requires c.peek-c.ensures.value
     k in
-    (tells_of_text c.args.taker c.held_at-c.result is.0 u.text is.1 (c.takes.ensures.ends c.if-takes.false), k)
+    (tells_of_text c.args.taker c.peek-c.result is.0 u.text is.1 (c.takes.ensures.ends c.if-takes.false), k)

@@ -17,7 +17,7 @@ use Rattle.granit_buffered.proofs.buffered.ReadAheadInput.fetch_run.Goals as goa
 pub run-init : goal.run-init
 run-init g c = record {
   told = λ u k. (
-    subst (LeftInFeed g.F.Feed.told c.args.self.now.feed c.args.self.now.held.items) (sym (past_none u)) k,
+    subst (LeftInFeed g.F.Feed.told c.args.self.now.feed c.args.self.now.held) (sym (past_none u)) k,
     front_none (run_test c.args.run) u.text,
     sym (append-nil (string_chars c.args.out.now)),
   );
@@ -54,7 +54,7 @@ returns-in_err-append-in-Some-clause-fetches g c = λ u k.
     rw err.1 (record {
       count = c.run.count;
       fits = front_fits (run_test c.args.run) u.text c.run.count so_far.1;
-      lands = held_again g.F.Feed.told taken.feed c.append.new.self.feed taken.held.items c.append.new.self.held.items
+      lands = held_again g.F.Feed.told taken.feed c.append.new.self.feed taken.held c.append.new.self.held
           v c.in-Some.c c.append.ensures.same.0 kept.1 so_far.0.0 so_far.0.1 some one.0 one.2;
       appended = kept.0 ∙ so_far.2;
     })
@@ -85,7 +85,7 @@ run-preserved g c =
           let some = passes_some (run_test c.args.run) (drop c.run.count u.text) (run_nul c.args.run) go in
           let seen : c.in-Some.c ≡ first (drop c.run.count u.text) = one.0 ∙ ap first text in (
             rw (same.0, appended.1)
-                (subst (LeftInFeed g.F.Feed.told c.take_one.new.self.feed c.take_one.new.self.held.items)
+                (subst (LeftInFeed g.F.Feed.told c.take_one.new.self.feed c.take_one.new.self.held)
                 (past_twice c.run.count 1 u) one.2),
             front_more (run_test c.args.run) u.text c.run.count (run_nul c.args.run) so_far.1 go,
             appended_more _ _ _ c.run.count u.text c.in-Some.c appended.0 so_far.2 some seen,

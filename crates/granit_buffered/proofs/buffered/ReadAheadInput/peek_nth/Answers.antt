@@ -5,11 +5,11 @@ use Rattle.granit_buffered.proofs.buffered.ReadAheadInput.peek_nth.Goals as goal
 pub returns-clause-value : goal.returns-clause-value
 returns-clause-value g c = λ u k.
     let s = c.args.self.now in
-    c.held_at.ensures.value ∙ sym (held_is_seen g.F.Feed.told s.feed s.held.items c.args.n u
+    c.peek.ensures.value ∙ sym (held_is_seen g.F.Feed.told s.feed s.held c.args.n u
     (λ few xs fault here.
-    let short : length s.held.items < s.window = omega (arith, few, c.requires) in
+    let short : length s.held < s.window = omega (arith, few, c.requires) in
     none_comes g.F.Feed.told g.F.Feed.bound g.met.F.Feed.bounded s.feed xs fault
     (g.met.F.Feed.over s.feed (s.ended short)) here) k)
 
 pub returns-clause-some : goal.returns-clause-some
-returns-clause-some g c = λ some. let held = c.held_at.ensures.some some in omega (arith, held)
+returns-clause-some g c = λ some. let held = c.peek.ensures.some some in omega (arith, held)

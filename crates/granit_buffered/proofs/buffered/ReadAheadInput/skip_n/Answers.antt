@@ -7,7 +7,7 @@ use Rattle.granit_buffered.proofs.buffered.ReadAheadInput.skip_n.Goals as goal
 
 pub taken-init : goal.taken-init
 taken-init g c = record {
-  told = λ u k. subst (LeftInFeed g.F.Feed.told c.args.self.now.feed c.args.self.now.held.items) (sym (past_none u)) k;
+  told = λ u k. subst (LeftInFeed g.F.Feed.told c.args.self.now.feed c.args.self.now.held) (sym (past_none u)) k;
   count = omega arith;
   left = omega arith;
   window = omega arith;
@@ -17,7 +17,7 @@ taken-init g c = record {
 
 pub taken-preserved : goal.taken-preserved
 taken-preserved g c = record {
-  told = λ u k. subst (LeftInFeed g.F.Feed.told c.skip.new.self.feed c.skip.new.self.held.items)
+  told = λ u k. subst (LeftInFeed g.F.Feed.told c.skip.new.self.feed c.skip.new.self.held)
       (past_twice c.taken.taken 1 u) (c.skip.ensures.unread (past_count c.taken.taken u) (c.taken.invariant.told u k));
   count = omega arith;
   left = omega (arith, c.taken.invariant.left, c.skip.ensures.moves.0);

@@ -7,14 +7,14 @@ use Rattle.granit_buffered.proofs.buffered.ReadAheadInput.skip_n.Given as goal
 
 abbrev pub invariant-taken : goal.invariant-taken
 invariant-taken g l = record {
-  told : (u : Unread) → LeftInFeed g.F.Feed.told l.fn.self.feed l.fn.self.held.items u
-      → LeftInFeed g.F.Feed.told l.self.feed l.self.held.items (past_count l.taken u);
+  told : (u : Unread) → LeftInFeed g.F.Feed.told l.fn.self.feed l.fn.self.held u
+      → LeftInFeed g.F.Feed.told l.self.feed l.self.held (past_count l.taken u);
   count : l.taken ≤ l.count;
-  left : length l.self.held.items + g.F.Feed.bound l.self.feed
-      ≤ length l.fn.self.held.items + g.F.Feed.bound l.fn.self.feed - l.taken;
+  left : length l.self.held + g.F.Feed.bound l.self.feed
+      ≤ length l.fn.self.held + g.F.Feed.bound l.fn.self.feed - l.taken;
   window : l.fn.self.window
-      ≤ l.self.window + min l.taken (length l.fn.self.held.items + g.F.Feed.bound l.fn.self.feed);
-  few : length l.self.held.items ≤ length l.fn.self.held.items - l.taken;
+      ≤ l.self.window + min l.taken (length l.fn.self.held + g.F.Feed.bound l.fn.self.feed);
+  few : length l.self.held ≤ length l.fn.self.held - l.taken;
   origin : Goes (origin_of g.F.Feed.told g.F.Feed.ended g.F.Feed.error g.F.Feed.handed_out l.fn.self.feed)
       (origin_of g.F.Feed.told g.F.Feed.ended g.F.Feed.error g.F.Feed.handed_out l.self.feed);
 }

@@ -10,7 +10,7 @@ use Rattle.granit_buffered.proofs.buffered.ReadAheadInput.skip_run.Goals as goal
 pub run-init : goal.run-init
 run-init g c = record {
   told = λ u k. (
-    subst (LeftInFeed g.F.Feed.told c.args.self.now.feed c.args.self.now.held.items) (sym (past_none u)) k,
+    subst (LeftInFeed g.F.Feed.told c.args.self.now.feed c.args.self.now.held) (sym (past_none u)) k,
     front_none (run_test c.args.run) u.text,
   );
   limit = omega arith;
@@ -35,7 +35,7 @@ run-preserved g c = record {
       let one = c.in-Some.ensures.read (past_count c.run.count u) so_far.0 in
       let go : run_test c.args.run (drop c.run.count u.text) ≡ true =
       ap (run_test c.args.run) (sym (past_text c.run.count u)) ∙ one.1 in (
-        subst (LeftInFeed g.F.Feed.told c.take_one.new.self.feed c.take_one.new.self.held.items)
+        subst (LeftInFeed g.F.Feed.told c.take_one.new.self.feed c.take_one.new.self.held)
             (past_twice c.run.count 1 u) one.2,
         front_more (run_test c.args.run) u.text c.run.count (run_nul c.args.run) so_far.1 go,
       );

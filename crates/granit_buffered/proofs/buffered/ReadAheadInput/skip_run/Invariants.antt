@@ -9,17 +9,17 @@ use Rattle.granit_buffered.proofs.buffered.ReadAheadInput.skip_run.Given as goal
 
 abbrev pub invariant-run : goal.invariant-run
 invariant-run g l = record {
-  told : (u : Unread) → LeftInFeed g.F.Feed.told l.fn.self.feed l.fn.self.held.items u
-      → LeftInFeed g.F.Feed.told l.self.feed l.self.held.items (past_count l.count u)
+  told : (u : Unread) → LeftInFeed g.F.Feed.told l.fn.self.feed l.fn.self.held u
+      → LeftInFeed g.F.Feed.told l.self.feed l.self.held (past_count l.count u)
       × IsFront (run_test l.run) u.text l.count;
   limit : l.count ≤ l.limit;
-  left : length l.self.held.items + g.F.Feed.bound l.self.feed + l.count
-      ≤ length l.fn.self.held.items + g.F.Feed.bound l.fn.self.feed;
+  left : length l.self.held + g.F.Feed.bound l.self.feed + l.count
+      ≤ length l.fn.self.held + g.F.Feed.bound l.fn.self.feed;
   window : l.fn.self.window ≤ l.self.window + l.count;
-  few : length l.self.held.items ≤ max 2 (length l.fn.self.held.items);
+  few : length l.self.held ≤ max 2 (length l.fn.self.held);
   origin : Goes (origin_of g.F.Feed.told g.F.Feed.ended g.F.Feed.error g.F.Feed.handed_out l.fn.self.feed)
       (origin_of g.F.Feed.told g.F.Feed.ended g.F.Feed.error g.F.Feed.handed_out l.self.feed);
 }
 
 abbrev pub decreases-run : goal.decreases-run
-decreases-run g l = length l.self.held.items + g.F.Feed.bound l.self.feed
+decreases-run g l = length l.self.held + g.F.Feed.bound l.self.feed

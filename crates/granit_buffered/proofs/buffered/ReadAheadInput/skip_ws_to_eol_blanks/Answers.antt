@@ -14,7 +14,7 @@ use Rattle.granit_buffered.proofs.buffered.ReadAheadInput.skip_ws_to_eol_blanks.
 pub blanks-init : goal.blanks-init
 blanks-init g c = record {
   told = λ u k. (
-    subst (LeftInFeed g.F.Feed.told c.args.self.now.feed c.args.self.now.held.items) (sym (past_none u)) k,
+    subst (LeftInFeed g.F.Feed.told c.args.self.now.feed c.args.self.now.held) (sym (past_none u)) k,
     front_none (starts (is_skipped c.args.skip_tabs)) u.text,
     c.new-found.ensures,
   );
@@ -42,7 +42,7 @@ blanks-preserved g c = record {
       let go : is_skipped c.args.skip_tabs (first (drop c.blanks.count u.text)) ≡ true = ap test (sym text) ∙ one.1 in
       let seen : c.in-Some.c ≡ first (drop c.blanks.count u.text) = one.0 ∙ ap first text in
       let some = passes_some test (drop c.blanks.count u.text) (skipped_nul c.args.skip_tabs) go in (
-        subst (LeftInFeed g.F.Feed.told c.take_sure.new.self.feed c.take_sure.new.self.held.items)
+        subst (LeftInFeed g.F.Feed.told c.take_sure.new.self.feed c.take_sure.new.self.held)
             (past_twice c.blanks.count 1 u) one.2,
         front_more test u.text c.blanks.count (skipped_nul c.args.skip_tabs) so_far.1 go,
         c.found_with-found.ensures ∙ ap (λ (f : WhitespaceResult). found_more f c.in-Some.c) so_far.2

@@ -10,17 +10,17 @@ use Rattle.granit_buffered.proofs.buffered.ReadAheadInput.skip_ws_to_eol_blanks.
 
 abbrev pub invariant-blanks : goal.invariant-blanks
 invariant-blanks g l = record {
-  told : (u : Unread) → LeftInFeed g.F.Feed.told l.fn.self.feed l.fn.self.held.items u
-      → LeftInFeed g.F.Feed.told l.self.feed l.self.held.items (past_count l.count u)
+  told : (u : Unread) → LeftInFeed g.F.Feed.told l.fn.self.feed l.fn.self.held u
+      → LeftInFeed g.F.Feed.told l.self.feed l.self.held (past_count l.count u)
       × IsFront (starts (is_skipped l.skip_tabs)) u.text l.count
       × (l.found ≡ whitespace_found (take l.count u.text));
-  left : length l.self.held.items + g.F.Feed.bound l.self.feed + l.count
-      ≤ length l.fn.self.held.items + g.F.Feed.bound l.fn.self.feed;
+  left : length l.self.held + g.F.Feed.bound l.self.feed + l.count
+      ≤ length l.fn.self.held + g.F.Feed.bound l.fn.self.feed;
   window : l.fn.self.window ≤ l.self.window + l.count;
-  few : length l.self.held.items ≤ max 1 (length l.fn.self.held.items);
+  few : length l.self.held ≤ max 1 (length l.fn.self.held);
   origin : Goes (origin_of g.F.Feed.told g.F.Feed.ended g.F.Feed.error g.F.Feed.handed_out l.fn.self.feed)
       (origin_of g.F.Feed.told g.F.Feed.ended g.F.Feed.error g.F.Feed.handed_out l.self.feed);
 }
 
 abbrev pub decreases-blanks : goal.decreases-blanks
-decreases-blanks g l = length l.self.held.items + g.F.Feed.bound l.self.feed
+decreases-blanks g l = length l.self.held + g.F.Feed.bound l.self.feed

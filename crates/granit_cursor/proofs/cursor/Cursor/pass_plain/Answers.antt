@@ -55,16 +55,15 @@ returns-in-Some-clause-here g c = λ h k.
     let stood = stands_at g.T.Input.unread _ _ h c.self.view_is k in
     let taken = rw c.in-Some.is at (c.in_ok-start.ensures.takes h.unread stood.0) in
     let w = taken.0 in
-    let column = taken.1.1.0 in
+    let column = c.args.column in
     record {
       words = w;
       mark = c.with_byte_offset-behind.ensures ∙ ap (λ (m : Mark). record m { byte_offset = Some end }) c.new.ensures
           ∙ words_mark f h start end w _ (ap (moved (end - start)) (sym stood.1));
       spaces = Some spaces;
       ends = (
-        taken.1.0,
-        (column, taken.1.1.1, line_there f h start end w column spaces taken.1.1.2),
-        line_lands g.T.Input.unread _ f h start end w column spaces taken.1.1.2 taken.1.2
+        line_there f h start end w column spaces taken.1.0,
+        line_lands g.T.Input.unread _ f h start end w column spaces taken.1.0 taken.1.1
             (ap (λ (p : Place). record {
               index = p.index + (end - start) + (1 + spaces);
               line = p.line + 1;

@@ -49,7 +49,7 @@ invariant_of-self-2-clause-suffix c =
     (encode_utf8_all (take (n + (1 + c.in_ok-spaces.spaces)) (chars rest)))
     c.args.self.now.within c.args.self.now.suffix
     (both_bytes c.args.in_flow c.args.self.now.source.now rest c.in_ok-behind.behind.now n c.args.self.now.within
-    c.in_ok-behind.ensures c.in_ok-column.field-0 c.in_ok-spaces.spaces c.in_ok-spaces.after.now
+    c.in_ok-behind.ensures c.args.column c.in_ok-spaces.spaces c.in_ok-spaces.after.now
     c.in_ok-spaces.ensures)
 
 pub invariant_of-self-2-clause-within : goal.invariant_of-self-2-clause-within
@@ -60,7 +60,7 @@ invariant_of-self-2-clause-within c =
     (encode_utf8_all (take (n + (1 + c.in_ok-spaces.spaces)) (chars rest)))
     c.args.self.now.within
     (both_bytes c.args.in_flow c.args.self.now.source.now rest c.in_ok-behind.behind.now n c.args.self.now.within
-    c.in_ok-behind.ensures c.in_ok-column.field-0 c.in_ok-spaces.spaces c.in_ok-spaces.after.now
+    c.in_ok-behind.ensures c.args.column c.in_ok-spaces.spaces c.in_ok-spaces.after.now
     c.in_ok-spaces.ensures)
 
 pub invariant_of-self-2-clause-utf8 : goal.invariant_of-self-2-clause-utf8
@@ -76,8 +76,8 @@ returns-clause-takes c = λ u is.
     let fits = c.args.self.now.within in
     let w = c.in_ok-behind.ensures in
     let p = c.in_ok-spaces.ensures in
-    let ended = line_ended f source rest behind n fits w c.in_ok-column.field-0 c.in_ok-spaces.spaces
+    let ended = line_ended f source rest behind n fits w c.args.column c.in_ok-spaces.spaces
     c.in_ok-spaces.after.now p u is in (
       lends_words f source rest behind n fits w u (feed_no_word f (chars behind) p.ends.feed) is,
-      (c.if-in_flow.false, (c.in_ok-column.field-0, c.in_ok-column.was, ended.0), ended.1),
+      ended,
     )

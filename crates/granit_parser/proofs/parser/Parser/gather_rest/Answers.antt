@@ -12,7 +12,7 @@ use Rattle.granit_parser.specs.Parsing.{Parsing}
 use Rattle.granit_parser.specs.Sources.{TellsSource}
 use Rattle.granit_refused.specs.Answered.{why}
 use Rattle.granit_restart.specs.Skipping.{with_pending}
-use Rattle.granit_stepper.specs.Gathering.{GivesBehind}
+use Rattle.granit_stepper.specs.Gathering.{GathersBehind}
 use Rattle.granit_stepper.specs.Numbers.{RefusesNumber}
 use Rattle.granit_stepper.specs.Stepping.{StandsIn}
 use Rattle.granit_steps.specs.Steps.{settle}
@@ -38,9 +38,9 @@ returns-in-Ok-false-clause-known g c = λ m before.
     ∙ ap (λ (p : Parsing _). p.stepper.parser.given) c.note_end.ensures))
     (gathers_all unread o m now after (λ n. RefusesNumber after.renumbered o (with_pending [] n))
     c.in-Ok-false.ensures.first
-    (λ n at told. subst (λ (p : OptionsData). GivesBehind (Ok false) (StandsIn unread after) p n
+    (λ n at told. subst (λ (p : OptionsData). GathersBehind (Ok false) (StandsIn unread after) p n
     (RefusesNumber after.renumbered p (with_pending [] n))) c.events.invariant.same
-    (never_told (subst (λ (b : Bool). GivesBehind (Ok b) (StandsIn unread after) now.scanner.options n
+    (never_told (subst (λ (b : Bool). GathersBehind (Ok b) (StandsIn unread after) now.scanner.options n
     (RefusesNumber after.renumbered now.scanner.options (with_pending [] n))
     ⊎ TellsSource {X = Bool} g.T.Input.origin (Some (Ok b)) after.scanner.cursor) c.in-Ok-false.field-0-test
     (c.in-Ok-false.ensures.known n at told))))
@@ -70,9 +70,9 @@ events-preserved g c =
     record {
       gathered = λ m before. gathers_more unread o m now after
           (λ n. RefusesNumber after.renumbered o (with_pending [] n)) c.in-Ok-true.ensures.first
-          (λ n at told. subst (λ (p : OptionsData). GivesBehind (Ok true) (StandsIn unread after) p n
+          (λ n at told. subst (λ (p : OptionsData). GathersBehind (Ok true) (StandsIn unread after) p n
           (RefusesNumber after.renumbered p (with_pending [] n))) c.events.invariant.same
-          (never_told (subst (λ (b : Bool). GivesBehind (Ok b) (StandsIn unread after) now.scanner.options n
+          (never_told (subst (λ (b : Bool). GathersBehind (Ok b) (StandsIn unread after) now.scanner.options n
           (RefusesNumber after.renumbered now.scanner.options (with_pending [] n))
           ⊎ TellsSource {X = Bool} g.T.Input.origin (Some (Ok b)) after.scanner.cursor) c.in-Ok-true.field-0-test
           (c.in-Ok-true.ensures.known n at told))))

@@ -19,7 +19,7 @@ returns-in-Some-clause-known g c = λ m at told. rw c.refuse.ensures.told (inr (
     (g.T.Input.origin c.take_source_error.new.self.stepper.scanner.cursor.input)
     c.step_events-more.ensures.moves.1 c.in-Some.ensures.origin c.in-Some.error
     c.take_source_error.new.self.stepper.scanner.cursor.place c.in-Some.ensures.given c.in-Some.ensures.place.0
-    c.in-Some.ensures.place.1))
+    c.in-Some.ensures.place.1 c.in-Some.ensures.offset))
 
 pub returns-in-None-clause-failed : goal.returns-in-None-clause-failed
 returns-in-None-clause-failed g c = fails_on c.step_events-more.result c.step_events-more.new.self.stepper

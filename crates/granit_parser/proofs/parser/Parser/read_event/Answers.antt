@@ -37,7 +37,7 @@ returns-clause-calls g c = λ calls reached goes.
     let event = c.step_event-event in
     rw c.unless_failed.ensures (reads_by g.T.Input.unread g.T.Input.origin
     c.args.self.now.stepper event.new.self.stepper error.new.self.stepper event.ensures.moves.1 error.ensures.origin
-    error.result event.result calls error.ensures.given error.ensures.place
+    error.result event.result calls error.ensures.given error.ensures.place error.ensures.offset
     (λ none. reads_kept g.T.Input.unread event.new.self.stepper error.new.self.stepper error.ensures.options
     error.ensures.renumbered error.ensures.first
     (error.ensures.failed ∙ ap (λ (e : Option Refused). event.new.self.stepper.failed || is_some e) none)
@@ -52,7 +52,8 @@ returns-clause-known g c = λ m at. rw c.unless_failed.ensures (known_by g.T.Inp
     c.step_event-event.result c.args.self.now.stepper.renumbered c.args.self.now.stepper.scanner.options m
     (c.take_source_error-error.ensures.renumbered ∙ c.step_event-event.ensures.renumbered)
     c.take_source_error-error.ensures.given c.take_source_error-error.ensures.place
-    c.take_source_error-error.ensures.known (c.step_event-event.ensures.known m at))
+    c.take_source_error-error.ensures.offset c.take_source_error-error.ensures.known
+    (c.step_event-event.ensures.known m at))
 
 pub returns-clause-sure : goal.returns-clause-sure
 returns-clause-sure g c = λ m at none. rw c.unless_failed.ensures (sure_by g.T.Input.unread g.T.Input.origin
@@ -67,7 +68,8 @@ pub returns-clause-source : goal.returns-clause-source
 returns-clause-source g c = rw c.unless_failed.ensures (source_by g.T.Input.unread g.T.Input.origin
     c.args.self.now.stepper c.step_event-event.new.self.stepper c.take_source_error-error.new.self.stepper
     c.step_event-event.ensures.moves.1 c.take_source_error-error.ensures.origin c.take_source_error-error.result
-    c.step_event-event.result c.take_source_error-error.ensures.given c.take_source_error-error.ensures.place)
+    c.step_event-event.result c.take_source_error-error.ensures.given c.take_source_error-error.ensures.place
+    c.take_source_error-error.ensures.offset)
 
 pub returns-clause-lost : goal.returns-clause-lost
 returns-clause-lost g c = rw c.unless_failed.ensures (lost_by g.T.Input.unread g.T.Input.origin
@@ -103,7 +105,7 @@ returns-clause-waits g c = λ m f held.
     let event = c.step_event-event in
     rw c.unless_failed.ensures (waits_by g.T.Input.unread g.T.Input.origin
     c.args.self.now.stepper event.new.self.stepper error.new.self.stepper event.ensures.moves.1 error.ensures.origin
-    error.result event.result m f error.ensures.given error.ensures.place
+    error.result event.result m f error.ensures.given error.ensures.place error.ensures.offset
     (λ none. waits_kept g.T.Input.unread event.new.self.stepper error.new.self.stepper error.ensures.ahead
     (error.ensures.failed ∙ ap (λ (e : Option Refused). event.new.self.stepper.failed || is_some e) none)
     (λ m e at. error.ensures.refused m e at none) event.result m f) (event.ensures.waits m f held))
@@ -122,4 +124,4 @@ returns-clause-at_once g c =
     let event = c.step_event-event in
     rw c.unless_failed.ensures (at_once_by g.T.Input.origin c.args.self.now.stepper event.new.self.stepper
     error.new.self.stepper event.ensures.moves.1 error.ensures.origin event.result event.ensures.waiting
-    event.ensures.ended error.result error.ensures.given error.ensures.place error.ensures.rest)
+    event.ensures.ended error.result error.ensures.given error.ensures.place error.ensures.offset error.ensures.rest)

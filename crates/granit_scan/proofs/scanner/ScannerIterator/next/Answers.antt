@@ -8,7 +8,7 @@ returns-clause-steps g c =
     let of = c.next_queued.ensures in
     let new = c.next_queued.new.self in
     subst (λ (r : NextToken). ScannerStepsTo g.T.Input.unread g.T.Input.left g.T.Input.origin c.args.self.now r new)
-    (sym c.transpose.ensures)
+    (sym c.next_of.ensures)
     (steps_to g.T.Input.unread g.T.Input.left g.T.Input.origin c.args.self.now new c.next_queued.result
     of.known of.source
     (step_tells c.args.self.now new c.next_queued.result of.started of.ended of.going of.failed) of.comments

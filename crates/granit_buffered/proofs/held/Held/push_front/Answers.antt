@@ -1,0 +1,13 @@
+use Rattle.std.proofs.Common.{◌≤◌, ◌∷◌, ℕ, List, length, ap, sym, ◌∙◌, arith}
+use Rattle.granit_buffered.proofs.HeldLemmas.{held_length, held_in_front}
+use Rattle.granit_buffered.proofs.held.Held.push_front.Goals as goal
+
+pub returns : goal.returns
+returns c =
+    let h = c.self.inside in
+    let inv = c.self.invariant in
+    let within : h.end ≤ length h.slots.items = omega (arith, inv.0, inv.2) in
+    let len = sym (held_length h.slots.items h.start h.end within) ∙ ap length c.self.view_is in
+    held_in_front h.slots.items c.copy_within.new.self.items h.start h.end c.args.c inv.1 within
+    (omega (arith, inv.0, len, c.requires)) c.copy_within.ensures.items
+    ∙ ap (λ (held : List ℕ). c.args.c ∷ held) c.self.view_is
