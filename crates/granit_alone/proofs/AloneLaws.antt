@@ -21,7 +21,7 @@ use Rattle.granit_reading.proofs.ParserSources.{run_none}
 use Rattle.granit_recovery.proofs.TidyLaws.{begun_ends}
 use Rattle.granit_recovery.specs.Streams.{CallsGive}
 use Rattle.granit_restart.specs.Calls.{Calls, next_call}
-use Rattle.granit_shifted.specs.Alone.{behind_first, TellsAlone, TellsEnd}
+use Rattle.granit_shifted.specs.Alone.{behind_first, TellsMoved, TellsEnd}
 use Rattle.granit_shifted.specs.Shift.{Shift, moved_event, moved_events, moved_fault, moved_fault_of, moved_kind}
 use Rattle.granit_steps.proofs.StepLaws.{run_told, steps_tell}
 use Rattle.granit_steps.proofs.StreamLaws.{run_is_stream, told_begins}
@@ -211,7 +211,7 @@ module _ (o : OptionsData) (x : List ℕ) (shift : Shift) where
     }
 
   -- nothing was dropped
-  pub gives_alone : (c d : Calls) (es : List PlainEvent) → TellsAlone o x shift c.steps → IsOpen c → CallsGive o c es d
+  pub gives_alone : (c d : Calls) (es : List PlainEvent) → TellsMoved o x shift c.steps → IsOpen c → CallsGive o c es d
       → GivesAlone o x shift [] es d
   gives_alone c d es tells goes gives =
       rest_alone c d [] es

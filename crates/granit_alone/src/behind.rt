@@ -9,7 +9,7 @@ ghost use Rattle.granit_recovery.specs.Streams.{CallsGive, ReachedByCalls};
 ghost use Rattle.granit_restart.specs.Calls.{Calls};
 ghost use Rattle.granit_restart.specs.Recovery.{recover};
 ghost use Rattle.granit_restart.specs.Skipping.{Failed, skip_by_turns, Stops};
-ghost use Rattle.granit_shifted.specs.Alone.{TellsAlone};
+ghost use Rattle.granit_shifted.specs.Alone.{TellsMoved};
 ghost use Rattle.granit_shifted.specs.Declaring.{TellsAnew};
 ghost use Rattle.granit_shifted.specs.Led.{Led};
 ghost use Rattle.granit_shifted.specs.Shift.{moved_events, moved_fault_of, Shift};
@@ -26,7 +26,7 @@ pub fn calls_that_were_reached_are_led()
 /// from before, by what the text tells behind one that declares them anew.
 pub fn calls_give_what_their_text_tells()
     ensures all { (o : OptionsData) (x : List ℕ) (shift : Shift) (c d : Calls) (es : List PlainEvent)
-        → TellsAlone o x shift c.steps → IsOpen c → CallsGive o c es d → GivesAlone o x shift [] es d }
+        → TellsMoved o x shift c.steps → IsOpen c → CallsGive o c es d → GivesAlone o x shift [] es d }
     ensures rest { (o : OptionsData) (x : List ℕ) (shift : Shift) (c d : Calls) (before es : List PlainEvent)
         → TellsRestAlone o x shift before c.steps → IsOpen c → CallsGive o c es d → GivesAlone o x shift before es d }
     ensures anew { (o : OptionsData) (x : List ℕ) (kept : List (List ℕ × List ℕ)) (shift : Shift)

@@ -2,7 +2,7 @@
 use Rattle.std.proofs.Common.{◌≡◌, ℕ, ◌==◌, Bool, true, false, Option, Some, None, Result, Ok, Err, refl, ap, ap₂, ◌∙◌}
 use Rattle.granit_base.specs.Classes.{is_blank}
 use Rattle.granit_error.specs.FaultKind.{CommentNotSeparated}
-use Rattle.granit_input.specs.Runs.{run_length, starts}
+use Rattle.granit_runs.specs.Runs.{run_length, starts}
 use Rattle.granit_lexemes.specs.Comment.{CommentRead}
 use Rattle.granit_lexemes.specs.Here.{Here, next_char, mark_of, past}
 use Rattle.granit_lexemes.specs.LayoutData.{LayoutData}

@@ -6,8 +6,8 @@ use Rattle.granit_base.specs.Classes.{is_blank, is_non_breakz}
 use Rattle.granit_base.specs.Written.{string_chars}
 use Rattle.granit_error.specs.FaultKind.{UnexpectedCharacter}
 use Rattle.granit_error.specs.Refused.{Refused}
-use Rattle.granit_input.specs.Runs.{run_length, starts}
-use Rattle.granit_input.proofs.RunLemmas.{run_within}
+use Rattle.granit_runs.specs.Runs.{run_length, starts}
+use Rattle.granit_runs.proofs.RunLemmas.{run_within}
 use Rattle.granit_lexemes.specs.Basics.{past_break, count_up_to, text_up_to}
 use Rattle.granit_lexemes.specs.BlockScalar.{BlockState, between_lines, empty_lines, line_up_to}
 use Rattle.granit_lexemes.specs.BlockScalar.{block_turn, block_len}

@@ -38,7 +38,7 @@ fn indent<T: Input>(cursor: &mut Cursor<T>, column: u128)
 
 /// Over an empty line, for which a line feed is appended; false where none stands here, and then over the
 /// spaces left of a column.
-#[tactic(auto, using(granit_input::proofs::RunLemmas::break_some))]
+#[tactic(auto, using(granit_runs::proofs::RunLemmas::break_some))]
 fn take_empty_line<T: Input>(
     cursor: &mut Cursor<T>,
     column: u128,
@@ -75,7 +75,7 @@ pub(crate) fn past_empty_lines<T: Input>(
 
 /// Over a line of spaces alone, for which a line feed is appended, and its width; None where another line
 /// begins here, and then over its spaces.
-#[tactic(auto, using(granit_input::proofs::RunLemmas::break_some))]
+#[tactic(auto, using(granit_runs::proofs::RunLemmas::break_some))]
 fn take_leading_line<T: Input>(
     cursor: &mut Cursor<T>,
     empty: &mut String,

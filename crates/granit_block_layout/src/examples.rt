@@ -1,12 +1,12 @@
 //! Worked examples of canonical block text, by computation: the text, and the lines that the original crate prints for
 //! it.
 ghost use Rattle.std.specs.Prelude.{◌++◌, ◌≡◌, ◌≤◌, codes};
-ghost use Rattle.granit_canonical.specs.Examples.{documents_tree, names_tree, pairs_tree, worked_tree};
 ghost use Rattle.granit_error.specs.OptionsData.{default_options};
 ghost use Rattle.granit_generator.specs.BlockText.{block_characters};
 ghost use Rattle.granit_machine.specs.Events.{prints};
 ghost use Rattle.granit_model.specs.Characters.{HasCharacters};
 ghost use Rattle.granit_model.specs.Tree.{DocumentsFit, NoTrees, trees_depth};
+ghost use Rattle.granit_model.specs.WorkedTrees.{documents_tree, names_tree, pairs_tree, worked_tree};
 
 /// Trees whose nodes stand where the original finds them, and which have what the law asks of trees.
 pub fn block_examples()

@@ -8,7 +8,7 @@ use Rattle.granit_base.specs.Place.{first}
 use Rattle.granit_boundary.specs.Found.{FinishesTo, Within, line_ends_here}
 use Rattle.granit_cursor.proofs.MoveLemmas.{run_begins}
 use Rattle.granit_input.specs.Looks.{begins_with_3}
-use Rattle.granit_input.specs.Runs.{is_quoted_char, run_length, starts}
+use Rattle.granit_runs.specs.Runs.{is_quoted_char, run_length, starts}
 use Rattle.granit_lexemes.proofs.HereLemmas.{no_line_end, not_empty, step_text}
 use Rattle.granit_lexemes.specs.Comment.{is_comment_char}
 use Rattle.granit_lexemes.specs.Here.{Here, next_char, step, text_len}

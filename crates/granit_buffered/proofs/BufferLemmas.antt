@@ -9,7 +9,7 @@ use Rattle.std.specs.Prelude.{MatchOption}
 use Rattle.granit_base.specs.Place.{Unread, first}
 use Rattle.granit_error.specs.FaultKind.{FaultKind}
 use Rattle.granit_input.specs.Origin.{Goes}
-use Rattle.granit_input.specs.Unread.{past_count}
+use Rattle.granit_runs.specs.Unread.{past_count}
 use Rattle.granit_buffered.specs.Feeds.{Holds, LeftInFeed, FeedEndsWith, of_buffer, of_feed}
 
 -- behind the end nothing comes

@@ -7,13 +7,13 @@ use Rattle.std.specs.List.{slice_index}
 use Rattle.granit_base.specs.Classes.{is_blank, is_blank_or_breakz, is_break, is_breakz, is_flow, is_printable}
 use Rattle.granit_base.specs.Classes.{is_within, is_z}
 use Rattle.granit_base.specs.Place.{first}
-use Rattle.granit_input.proofs.AsciiLemmas.{plain_ascii, word_ascii}
-use Rattle.granit_input.proofs.RunLemmas.{class_nul, run_nul}
-use Rattle.granit_input.proofs.WhiteLemmas.{skipped_nul}
-use Rattle.granit_input.specs.Runs.{is_plain_ascii, is_quoted_ascii, is_quoted_char, run_test}
-use Rattle.granit_input.specs.declared.class.Run.{Run}
-use Rattle.granit_input.specs.declared.class.Run.TheVariants.{Of, Plain, Quoted, QuotedAscii}
-use Rattle.granit_input.specs.declared.class.Run.TheVariants.{PlainWords, QuotedWords}
+use Rattle.granit_runs.proofs.AsciiLemmas.{plain_ascii, word_ascii}
+use Rattle.granit_runs.proofs.RunLemmas.{class_nul, run_nul}
+use Rattle.granit_runs.proofs.WhiteLemmas.{skipped_nul}
+use Rattle.granit_runs.specs.Runs.{is_plain_ascii, is_quoted_ascii, is_quoted_char, run_test}
+use Rattle.granit_runs.specs.declared.class.Run.{Run}
+use Rattle.granit_runs.specs.declared.class.Run.TheVariants.{Of, Plain, Quoted, QuotedAscii}
+use Rattle.granit_runs.specs.declared.class.Run.TheVariants.{PlainWords, QuotedWords}
 use Rattle.granit_buffered.specs.Sure.{TellsAlone, taker_test, takes_letters}
 use Rattle.granit_buffered.specs.declared.sure.Taker.{Taker}
 use Rattle.granit_buffered.specs.declared.sure.Taker.TheVariants.{Sure, Blanks}

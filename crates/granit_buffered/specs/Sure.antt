@@ -2,12 +2,12 @@
 use Rattle.std.specs.Prelude.{◌≡◌, ℕ, ◌==◌, ◌&&◌, not, Bool, true, false, List, Option, Some, None}
 use Rattle.granit_base.specs.Classes.{is_blank_or_breakz, is_flow}
 use Rattle.granit_base.specs.Place.{Unread, first}
-use Rattle.granit_input.specs.Runs.{run_test, starts}
-use Rattle.granit_input.specs.Unread.{past_count}
-use Rattle.granit_input.specs.White.{is_skipped}
-use Rattle.granit_input.specs.declared.class.Run.{Run}
-use Rattle.granit_input.specs.declared.class.Run.TheVariants.{Of, Plain, Quoted, QuotedAscii}
-use Rattle.granit_input.specs.declared.class.Run.TheVariants.{PlainWords, QuotedWords}
+use Rattle.granit_runs.specs.Runs.{run_test, starts}
+use Rattle.granit_runs.specs.Unread.{past_count}
+use Rattle.granit_runs.specs.White.{is_skipped}
+use Rattle.granit_runs.specs.declared.class.Run.{Run}
+use Rattle.granit_runs.specs.declared.class.Run.TheVariants.{Of, Plain, Quoted, QuotedAscii}
+use Rattle.granit_runs.specs.declared.class.Run.TheVariants.{PlainWords, QuotedWords}
 use Rattle.granit_buffered.specs.declared.sure.Taker.{Taker}
 use Rattle.granit_buffered.specs.declared.sure.Taker.TheVariants.{Sure, Blanks}
 

@@ -2,10 +2,10 @@
 ghost use Rattle.std.specs.Prelude.{◌≡◌, ◌==◌, ◌&&◌, ◌||◌, not, ◌∷◌, ℕ, List, true, false};
 ghost use Rattle.granit_base.specs.Classes.{is_blank_or_breakz, is_flow};
 ghost use Rattle.granit_base.specs.Place.{first};
-ghost use Rattle.granit_input.specs.Runs.{is_quoted_ascii, is_quoted_char, run_test};
-ghost use Rattle.granit_input.specs.White.{is_skipped, found_more};
+ghost use Rattle.granit_runs.specs.Runs.{is_quoted_ascii, is_quoted_char, run_test};
+ghost use Rattle.granit_runs.specs.White.{is_skipped, found_more};
 ghost use Rattle.granit_buffered.specs.Sure.{TellsAlone, is_plain_alone, taker_test, takes_letters};
-ghost use Rattle.granit_input.specs.declared.class.Run.TheVariants.{Plain};
+ghost use Rattle.granit_runs.specs.declared.class.Run.TheVariants.{Plain};
 
 use granit_base::{is_blank_or_breakz, is_flow, is_printable};
 use granit_input::{Run, SkipTabs, WhitespaceResult};

@@ -2,11 +2,12 @@
 //! crate prints for it.
 ghost use Rattle.std.specs.Prelude.{◌++◌, ◌≡◌, codes};
 ghost use Rattle.granit_machine.specs.ExampleOptions.{anchors_told};
-ghost use Rattle.granit_canonical.specs.Examples.{canonical_lines, documents_tree, names_tree, pairs_tree, worked_tree};
+ghost use Rattle.granit_canonical.specs.Examples.{canonical_lines};
 ghost use Rattle.granit_error.specs.OptionsData.{default_options};
 ghost use Rattle.granit_model.specs.Characters.{HasCharacters};
 ghost use Rattle.granit_model.specs.FlowText.{flow_characters};
 ghost use Rattle.granit_model.specs.Tree.{DocumentsFit, NoTrees, trees_depth};
+ghost use Rattle.granit_model.specs.WorkedTrees.{documents_tree, names_tree, pairs_tree, worked_tree};
 
 /// Trees whose nodes stand where the original finds them, and which have what the law asks of trees.
 pub fn canonical_examples()

@@ -15,7 +15,7 @@ use Rattle.granit_machine.specs.Gaps.{past_gap, over_break_if, refuse_cut, behin
 use Rattle.granit_machine.specs.Gaps.{ready_gap, gap_ends}
 use Rattle.granit_machine.specs.Laid.{Laid}
 use Rattle.granit_machine.specs.ReaderState.{ReaderState}
-use Rattle.granit_input.proofs.RunLemmas.{blank_some, break_some}
+use Rattle.granit_runs.proofs.RunLemmas.{blank_some, break_some}
 use Rattle.granit_cursor.specs.Reading.{coded}
 use Rattle.granit_cursor.proofs.GivenLemmas.{same_ok}
 use Rattle.granit_content.specs.Reads.{Seen, Nothing, seen, seen_comment}

@@ -2,7 +2,7 @@
 use Rattle.std.proofs.Common.{◌≡◌, ℕ, Bool, true, false, sym, ◌∙◌, refl, arith}
 use Rattle.std.proofs.lemmas.Bool.Decides.{nat_tests}
 use Rattle.granit_base.specs.Classes.{is_blank, is_break, is_bom, is_gap}
-use Rattle.granit_input.specs.Lines.{is_line_gap, is_visible}
+use Rattle.granit_runs.specs.Lines.{is_line_gap, is_visible}
 use Rattle.granit_lexemes.specs.Here.{Here, next_char, past}
 use Rattle.granit_machine.specs.Gaps.{begins_gap, past_gap}
 use Rattle.granit_content.proofs.GapLemmas.{gap_behind, gap_stops}

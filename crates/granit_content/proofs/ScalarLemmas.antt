@@ -7,8 +7,8 @@ use Rattle.granit_cursor.specs.Tokens.{token_placement, comment_token, is_right_
 use Rattle.granit_cursor.specs.declared.token.Lexed.{Lexed}
 use Rattle.granit_error.specs.OptionsData.{OptionsData}
 use Rattle.granit_error.specs.Refused.{Refused}
-use Rattle.granit_lex.specs.PlainCode.{plain_lexed}
-use Rattle.granit_lex.specs.QuotedCode.{quoted_lexed}
+use Rattle.granit_plain.specs.PlainCode.{plain_lexed}
+use Rattle.granit_quoted.specs.QuotedCode.{quoted_lexed}
 use Rattle.granit_lexemes.specs.BlockScalar.{BlockGiven, block_scalar}
 use Rattle.granit_lexemes.specs.Comment.{CommentRead}
 use Rattle.granit_lexemes.specs.Here.{Here}

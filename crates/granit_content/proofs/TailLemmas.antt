@@ -4,8 +4,8 @@ use Rattle.std.proofs.Common.{ap, ◌∙◌, arith}
 use Rattle.std.proofs.lemmas.List.{length-drop}
 use Rattle.granit_base.specs.Classes.{is_blank}
 use Rattle.granit_error.specs.FaultKind.{CommentNotSeparated}
-use Rattle.granit_input.specs.Runs.{run_length, starts}
-use Rattle.granit_input.proofs.RunLemmas.{run_within}
+use Rattle.granit_runs.specs.Runs.{run_length, starts}
+use Rattle.granit_runs.proofs.RunLemmas.{run_within}
 use Rattle.granit_lexemes.specs.Basics.{count_up_to}
 use Rattle.granit_lexemes.specs.Comment.{CommentRead, comment}
 use Rattle.granit_lexemes.specs.Here.{Here, text_len, next_char, mark_of, past}

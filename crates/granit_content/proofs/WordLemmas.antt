@@ -6,9 +6,9 @@ use Rattle.granit_base.specs.Classes.{is_flow, is_within}
 use Rattle.granit_base.specs.Place.{Mark, first}
 use Rattle.granit_base.specs.Written.{lent}
 use Rattle.granit_cursor.specs.Plain.{EndsWordsAt, PlainPassed}
-use Rattle.granit_input.specs.White.{blanks_length}
-use Rattle.granit_input.specs.Words.{EndsBelow}
-use Rattle.granit_input.specs.declared.whitespace.SkipTabs.TheVariants.{No}
+use Rattle.granit_runs.specs.White.{blanks_length}
+use Rattle.granit_runs.specs.Words.{EndsBelow}
+use Rattle.granit_runs.specs.declared.whitespace.SkipTabs.TheVariants.{No}
 use Rattle.granit_lexemes.specs.Here.{Here, mark_of, next_char, step}
 use Rattle.granit_lexemes.specs.LayoutData.{LayoutData}
 use Rattle.granit_lexemes.specs.Moves.{steps}
@@ -17,7 +17,7 @@ use Rattle.granit_lexemes.specs.PlainExtent.{is_flow_dash}
 use Rattle.granit_lexemes.specs.PlainScalar.{PlainRead, plain_scalar}
 use Rattle.granit_lexemes.proofs.HereLemmas.{step_text}
 use Rattle.granit_scalars.proofs.Comments.{steps_text}
-use Rattle.granit_lex.proofs.WordScalars.{stop_alone, words_and_line, words_no_dash, words_read}
+use Rattle.granit_plain.proofs.WordScalars.{stop_alone, words_and_line, words_no_dash, words_read}
 
 -- what is read of a scalar by its text and the mark behind it
 abbrev pub passed_read : Here → (text : List ℕ) → (behind : Mark) → (on_new_line : Bool) → PlainRead

@@ -10,7 +10,7 @@ ghost use Rattle.granit_lexemes.specs.QuotedScalar.{quote_char};
 ghost use Rattle.granit_machine.specs.Laid.{is_in_flow};
 ghost use Rattle.granit_machine.specs.NodeLexemes as spec;
 ghost use Rattle.granit_machine.specs.ReaderState.{with_tail};
-ghost use Rattle.granit_lex.specs.QuotedCode.{remark_token};
+ghost use Rattle.granit_quoted.specs.QuotedCode.{remark_token};
 ghost use Rattle.granit_items.specs.ItemViews.{boxed_view, filled_items, lexeme_view};
 ghost use Rattle.granit_content.specs.KindViews.{note_of_token};
 ghost use Rattle.granit_refused.specs.Answered.{answered};
@@ -28,8 +28,9 @@ use granit_error::{Options, ScanError};
 use granit_input::BorrowedInput;
 use granit_items::{Found, Lexeme, LexemeKind, Note};
 use granit_layout::Layouts;
-use granit_lex::{PlainScalar, QuotedScalar, Remark, quoted_style, read_plain, read_quoted};
 use granit_lexemes::LastLexeme;
+use granit_plain::{PlainScalar, read_plain};
+use granit_quoted::{QuotedScalar, Remark, quoted_style, read_quoted};
 use granit_refused::{Refused, keep_fault};
 use std::alloc::Global;
 
@@ -188,7 +189,25 @@ fn quoted_by_turns<'input, T: BorrowedInput<'input>>(
 }
 
 /// The comment behind a scalar becomes its lexeme's tail.
+#[inline(always)]
 fn put_comment<'input>(
+    alloc: Global,
+    comment: &mut Option<Remark<'input>>,
+    found: &mut Lexeme<'input>,
+) -> Result<(), NoMemory>
+    ensures { OnOk result (lexeme_view found.new
+        ≡ with_tail (lexeme_view found.old) (option_map note_of_token (option_map remark_token comment.old))) }
+{
+    if comment.is_some() {
+        return put_remark(alloc, comment, found);
+    }
+    found.tail = None;
+    Ok(())
+}
+
+/// The same where there is one, which is seldom.
+#[inline(never)]
+fn put_remark<'input>(
     alloc: Global,
     comment: &mut Option<Remark<'input>>,
     found: &mut Lexeme<'input>,

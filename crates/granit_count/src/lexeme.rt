@@ -3,7 +3,8 @@ use granit_base::is_blank_or_breakz;
 use granit_cursor::{Cursor, Layout, scan_comment};
 use granit_error::ScanError;
 use granit_input::{BorrowedInput, Input, StrInput};
-use granit_lex::{scan_plain_scalar, scan_quoted_scalar};
+use granit_plain::scan_plain_scalar;
+use granit_quoted::scan_quoted_scalar;
 use std::alloc::Global;
 
 /// Nothing stands around the lexeme.

@@ -6,7 +6,7 @@ use Rattle.granit_base.specs.Classes.{is_printable}
 use Rattle.granit_base.specs.Written.{Written}
 use Rattle.granit_error.specs.FaultKind.{NoMemory, UnexpectedCharacter}
 use Rattle.granit_error.specs.Refused.{Refused}
-use Rattle.granit_input.specs.Runs.{run_length, starts, is_line_char}
+use Rattle.granit_runs.specs.Runs.{run_length, starts, is_line_char}
 use Rattle.granit_lexemes.specs.Comment.{is_comment_char, behind_comment, skipped_comment, comment, comment_read}
 use Rattle.granit_lexemes.specs.Comment.{CommentRead, StandsComment, Spoils, ReadsComment}
 use Rattle.granit_lexemes.specs.Basics.{as_spelled, fails_at}

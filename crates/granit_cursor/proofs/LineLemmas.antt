@@ -3,9 +3,9 @@ use Rattle.std.proofs.Common.{◌≡◌, ℕ, zero, suc, ◌+◌, ◌<◌, ◌�
 use Rattle.std.proofs.Common.{drop, None, inl, inr, refl, sym, ap, subst, ◌∙◌, arith}
 use Rattle.std.proofs.lemmas.Bool.{cases_Bool, eqb-true}
 use Rattle.granit_base.specs.Place.{Place, Unread, first, ends_line}
-use Rattle.granit_input.specs.Lines.{IsLines, is_line_gap, feed_count, column_behind}
-use Rattle.granit_input.specs.Runs.{run_length, starts}
-use Rattle.granit_input.specs.Unread.{past_count}
+use Rattle.granit_runs.specs.Lines.{IsLines, is_line_gap, feed_count, column_behind}
+use Rattle.granit_runs.specs.Runs.{run_length, starts}
+use Rattle.granit_runs.specs.Unread.{past_count}
 use Rattle.granit_input.proofs.UnreadLemmas.{past_none, past_one, past_twice}
 use Rattle.granit_lexemes.specs.Here.{Here, next_char, is_quiet, begins_behind, tab_behind, step, past}
 use Rattle.granit_lexemes.specs.Moves.{steps}

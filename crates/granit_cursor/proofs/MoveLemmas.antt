@@ -13,11 +13,11 @@ use Rattle.granit_base.specs.Classes.{is_printable, is_bom, is_blank, is_break, 
 use Rattle.granit_base.specs.Classes.{is_non_breakz}
 use Rattle.granit_base.specs.Place.{Place, Mark, Unread, first, ends_line}
 use Rattle.granit_base.specs.Written.{string_chars}
-use Rattle.granit_input.specs.Unread.{past_count}
-use Rattle.granit_input.specs.Runs.{run_length, starts, is_line_char, is_quoted_char}
+use Rattle.granit_runs.specs.Unread.{past_count}
+use Rattle.granit_runs.specs.Runs.{run_length, starts, is_line_char, is_quoted_char}
 use Rattle.granit_base.specs.PlainContent.{is_content}
-use Rattle.granit_input.specs.White.{is_skipped}
-use Rattle.granit_input.specs.declared.whitespace.SkipTabs.TheVariants.{No}
+use Rattle.granit_runs.specs.White.{is_skipped}
+use Rattle.granit_runs.specs.declared.whitespace.SkipTabs.TheVariants.{No}
 use Rattle.granit_input.proofs.UnreadLemmas.{past_none, past_one, past_text, past_twice}
 use Rattle.granit_lexemes.specs.Here.{Here, next_char, mark_of, is_quiet, first_tab, begins_behind, tab_behind, step}
 use Rattle.granit_lexemes.specs.Here.{mid_line, chosen, skip, past as past_all}

@@ -5,11 +5,11 @@ use Rattle.std.proofs.Common.{arith, zero-add}
 use Rattle.std.specs.Option.{option_map}
 use Rattle.std.proofs.lemmas.Bool.Decides.{nat_tests}
 use Rattle.granit_base.specs.Place.{Mark, Place, Unread, ends_line, first}
-use Rattle.granit_input.specs.Runs.{is_plain_word, run_length, starts}
-use Rattle.granit_input.specs.Unread.{past_count, utf8_length}
-use Rattle.granit_input.specs.Words.{EndsLine, LendsWords}
-use Rattle.granit_input.specs.declared.class.Run.TheVariants.{PlainWords}
-use Rattle.granit_input.proofs.RunLemmas.{run_nul}
+use Rattle.granit_runs.specs.Runs.{is_plain_word, run_length, starts}
+use Rattle.granit_runs.specs.Unread.{past_count, utf8_length}
+use Rattle.granit_runs.specs.Words.{EndsLine, LendsWords}
+use Rattle.granit_runs.specs.declared.class.Run.TheVariants.{PlainWords}
+use Rattle.granit_runs.proofs.RunLemmas.{run_nul}
 use Rattle.granit_input.proofs.UnreadLemmas.{past_offset, past_one, past_text, past_twice}
 use Rattle.granit_lexemes.specs.Here.{Here, begins_behind, mark_of, next_char, step, tab_behind}
 use Rattle.granit_lexemes.specs.Moves.{steps}

@@ -6,11 +6,12 @@ use Rattle.std.specs.Str.{chars}
 use Rattle.std.proofs.lemmas.Bool.{and_parts}
 use Rattle.std.proofs.Math.Seq.{drop-append_seam}
 use Rattle.granit_base.specs.Place.{Unread, ends_line, first}
-use Rattle.granit_input.specs.Origin.{Origin, Agrees, Goes, PartOf}
-use Rattle.granit_input.specs.Quotes.{IsQuoted, QuotedAt, quote_of}
-use Rattle.granit_input.specs.Runs.{run_length, is_quoted_word}
-use Rattle.granit_input.specs.Unread.{past_count}
-use Rattle.granit_input.proofs.QuoteLemmas.{lent_inside}
+use Rattle.granit_input.specs.Origin.{Origin, Agrees, Goes}
+use Rattle.granit_runs.specs.Cuts.{PartOf}
+use Rattle.granit_runs.specs.Quotes.{IsQuoted, QuotedAt, quote_of}
+use Rattle.granit_runs.specs.Runs.{run_length, is_quoted_word}
+use Rattle.granit_runs.specs.Unread.{past_count}
+use Rattle.granit_input.proofs.QuoteTakes.{lent_inside}
 use Rattle.granit_input.proofs.UnreadLemmas.{past_twice}
 use Rattle.granit_lexemes.specs.Here.{Here, is_quiet, step}
 use Rattle.granit_lexemes.specs.Moves.{steps}

@@ -7,10 +7,11 @@ use Rattle.std.specs.Option.{option_map}
 use Rattle.std.specs.Str.{chars}
 use Rattle.std.proofs.lemmas.Bool.{and_parts, cases_Bool}
 use Rattle.granit_base.specs.Place.{Unread}
-use Rattle.granit_input.specs.Chunks.{TakesFront}
-use Rattle.granit_input.specs.Origin.{Origin, Goes, Agrees, PartOf, LentBetween, can_lend}
-use Rattle.granit_input.specs.Runs.{run_length}
-use Rattle.granit_input.specs.Unread.{past_count, utf8_length, SpelledBy}
+use Rattle.granit_runs.specs.Chunks.{TakesFront}
+use Rattle.granit_input.specs.Origin.{Origin, Goes, Agrees, LentBetween, can_lend}
+use Rattle.granit_runs.specs.Cuts.{PartOf}
+use Rattle.granit_runs.specs.Runs.{run_length}
+use Rattle.granit_runs.specs.Unread.{past_count, utf8_length, SpelledBy}
 use Rattle.granit_input.proofs.LendLemmas.{lent_between}
 use Rattle.granit_input.proofs.UnreadLemmas.{past_offset}
 use Rattle.granit_base.specs.Written.{Written}

@@ -6,8 +6,8 @@ use Rattle.std.proofs.lemmas.Bool.Decides.{nat_tests}
 use Rattle.granit_base.specs.Classes.{is_blank, is_blank_or_breakz, is_break, is_breakz, is_z}
 use Rattle.granit_base.specs.Place.{Mark, Unread, ends_line, first}
 use Rattle.granit_base.specs.PlainContent.{is_content}
-use Rattle.granit_input.specs.Runs.{run_length, begins_word, is_plain_word, is_quoted_char, is_quoted_word}
-use Rattle.granit_input.specs.Unread.{past_count}
+use Rattle.granit_runs.specs.Runs.{run_length, begins_word, is_plain_word, is_quoted_char, is_quoted_word}
+use Rattle.granit_runs.specs.Unread.{past_count}
 use Rattle.granit_lexemes.specs.Here.{Here, is_quiet, next_char, step}
 use Rattle.granit_lexemes.specs.Moves.{steps}
 use Rattle.granit_lexemes.proofs.HereLemmas.{step_text}

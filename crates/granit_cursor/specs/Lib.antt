@@ -4,3 +4,4 @@ pub mod Plain
 pub mod Reading
 pub mod Tokens
 pub mod Trimmed
+pub mod WithoutMemory

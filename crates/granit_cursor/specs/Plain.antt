@@ -3,8 +3,8 @@ use Rattle.std.specs.Prelude.{◌≡◌, ℕ, ◌-◌, Bool, true, List, take, O
 use Rattle.std.specs.Borrow.{Bor}
 use Rattle.std.specs.Str.{chars}
 use Rattle.granit_base.specs.Place.{Mark}
-use Rattle.granit_input.specs.Runs.{is_plain_word, run_length}
-use Rattle.granit_input.specs.Words.{AreWords, EndsLine, LendsWords, stops_words}
+use Rattle.granit_runs.specs.Runs.{is_plain_word, run_length}
+use Rattle.granit_runs.specs.Words.{AreWords, EndsLine, LendsWords, stops_words}
 use Rattle.granit_lexemes.specs.Here.{Here, mark_of, step}
 use Rattle.granit_lexemes.specs.Moves.{steps}
 

@@ -2,7 +2,7 @@
 use Rattle.std.specs.Prelude.{◌≡◌, ℕ, ◌+◌, Bool, true, List, length, Option, Some, None}
 use Rattle.std.specs.Borrow.{Bor}
 use Rattle.std.specs.Str.{chars}
-use Rattle.granit_input.specs.Quotes.{IsQuoted, QuotedAt}
+use Rattle.granit_runs.specs.Quotes.{IsQuoted, QuotedAt}
 use Rattle.granit_lexemes.specs.Here.{Here}
 use Rattle.granit_lexemes.specs.Moves.{steps}
 

@@ -7,9 +7,9 @@ use Rattle.granit_base.specs.Place.{Place, Mark, Unread}
 use Rattle.granit_base.specs.Written.{Written}
 use Rattle.granit_error.specs.FaultKind.{FaultKind, InputSlicingUnavailable, NoMemory}
 use Rattle.granit_error.specs.Refused.{Refused}
-use Rattle.granit_input.specs.Chunks.{TakesFront}
+use Rattle.granit_runs.specs.Chunks.{TakesFront}
 use Rattle.granit_input.specs.Origin.{Origin, Goes, LentBetween}
-use Rattle.granit_input.specs.Runs.{run_length}
+use Rattle.granit_runs.specs.Runs.{run_length}
 use Rattle.granit_lexemes.specs.Basics.{as_spelled}
 use Rattle.granit_lexemes.specs.Here.{Here, mark_of, mid_line}
 use Rattle.granit_lexemes.specs.Moves.{steps}

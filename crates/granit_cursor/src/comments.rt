@@ -1,7 +1,7 @@
 //! Comments are read.
 ghost use Rattle.std.specs.Prelude.{◌≡◌, ◌⊎◌, ℕ, IfOk, IfErr, []};
 ghost use Rattle.granit_error.specs.FaultKind.{InputSlicingUnavailable, NoMemory, UnexpectedCharacter};
-ghost use Rattle.granit_input.specs.Runs.{starts, is_line_char};
+ghost use Rattle.granit_runs.specs.Runs.{starts, is_line_char};
 ghost use Rattle.granit_lexemes.specs.Comment as spec;
 ghost use Rattle.granit_lexemes.specs.Here.{Here, next_char};
 ghost use Rattle.granit_cursor.specs.Reading.{Stands, Moves, Wherever, ReadsAs, AnswersAs, RefusedFor, coded};

@@ -3,7 +3,7 @@ ghost use Rattle.std.specs.Prelude.{◌≡◌, ℕ, IfErr, None, Some, if◌then
 ghost use Rattle.granit_base.specs.Place.{Unread};
 ghost use Rattle.granit_error.specs.FaultKind.{InputSlicingUnavailable};
 ghost use Rattle.granit_input.specs.Origin.{can_lend, LentBetween};
-ghost use Rattle.granit_input.specs.Unread.{SpelledBy, past_count};
+ghost use Rattle.granit_runs.specs.Unread.{SpelledBy, past_count};
 ghost use Rattle.granit_lexemes.specs.Here.{Here};
 ghost use Rattle.granit_cursor.specs.Reading.{Stands, IsLent, LendsUpTo, RefusesSlice};
 

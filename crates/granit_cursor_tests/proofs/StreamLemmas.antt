@@ -5,7 +5,7 @@ use Rattle.std.specs.Iterator.{Count}
 use Rattle.granit_base.specs.Place.{Unread}
 use Rattle.granit_input.specs.Origin.{Goes, Origin}
 use Rattle.granit_cursor_tests.specs.Stream.{StreamHolds, of_stream}
-use Rattle.granit_input.specs.Unread.{past_count}
+use Rattle.granit_runs.specs.Unread.{past_count}
 use Rattle.granit_buffered.specs.Feeds.{StillGives}
 
 pub rest_some : {S : Type 0} (steps : S → Option ℕ → S → Type 0) (remaining : S → Count) (done : Bool) (s t : S) (c : ℕ)

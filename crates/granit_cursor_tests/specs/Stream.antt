@@ -14,16 +14,16 @@ StreamHolds steps remaining done s front text = (rest : List ℕ) × (text ≡ f
     × StillGives steps remaining done s rest
 
 -- the bytes of what is lent, where something is
-abbrev pub bytes_of : {L : Type 0} → (L → Option (List ℕ)) → Option L → Option (List ℕ)
-bytes_of bytes None = None
-bytes_of bytes (Some lends) = bytes lends
+abbrev pub lent_bytes : {L : Type 0} → (L → Option (List ℕ)) → Option L → Option (List ℕ)
+lent_bytes bytes None = None
+lent_bytes bytes (Some lends) = bytes lends
 
 -- where its characters come from: only the text that it lends is sliced, and a source that breaks off has an error,
 -- which is met at the end
 abbrev pub of_stream : {L : Type 0} → (done breaks_off handed_out : Bool) → (L → Origin) → Option L → Origin
 of_stream done breaks_off handed_out origin lends = record {
-  sliced = bytes_of (λ l. (origin l).sliced) lends;
-  lent = bytes_of (λ l. (origin l).lent) lends;
+  sliced = lent_bytes (λ l. (origin l).sliced) lends;
+  lent = lent_bytes (λ l. (origin l).lent) lends;
   tells_offset = is_some lends;
   knows_end = done;
   error = if done && breaks_off then Some UnexpectedEof else None;

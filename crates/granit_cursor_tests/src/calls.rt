@@ -4,8 +4,8 @@ ghost use Rattle.std.specs.Prelude.{◌≡◌, IfOk, length, take};
 ghost use Rattle.granit_base.specs.Classes.{is_alpha};
 ghost use Rattle.granit_base.specs.Place.{Unread};
 ghost use Rattle.granit_input.specs.Origin.{LentBetween};
-ghost use Rattle.granit_input.specs.Runs.{run_length, starts};
-ghost use Rattle.granit_input.specs.Unread.{past_count};
+ghost use Rattle.granit_runs.specs.Runs.{run_length, starts};
+ghost use Rattle.granit_runs.specs.Unread.{past_count};
 
 use crate::agree::agree;
 use crate::stream::Stream;

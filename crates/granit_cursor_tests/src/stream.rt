@@ -8,7 +8,7 @@ ghost use Rattle.std.specs.Iterator.{IsFinite, size};
 ghost use Rattle.circular_buffer.specs.Buffer.{buffer};
 ghost use Rattle.granit_base.specs.Place.{Unread, first};
 ghost use Rattle.granit_cursor_tests.specs.Stream.{StreamHolds};
-ghost use Rattle.granit_input.specs.Unread.{past_count};
+ghost use Rattle.granit_runs.specs.Unread.{past_count};
 ghost use Rattle.granit_buffered.specs.Feeds.{GivesOnly, StillGives, still_left};
 
 use circular_buffer::HeapCircularBuffer;

@@ -5,8 +5,8 @@ use Rattle.std.proofs.lemmas.List.{length-drop}
 use Rattle.std.proofs.lemmas.Str.{encodes-chars}
 use Rattle.granit_base.specs.Classes.{is_blank}
 use Rattle.granit_cursor.proofs.MoveLemmas.{steps_past}
-use Rattle.granit_input.proofs.RunLemmas.{run_within}
-use Rattle.granit_input.specs.Runs.{run_length, starts}
+use Rattle.granit_runs.proofs.RunLemmas.{run_within}
+use Rattle.granit_runs.specs.Runs.{run_length, starts}
 use Rattle.granit_lexemes.specs.Basics.{count_up_to}
 use Rattle.granit_lexemes.specs.Here.{Here, text_len, past}
 use Rattle.granit_lexemes.specs.Moves.{steps}

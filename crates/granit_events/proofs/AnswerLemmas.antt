@@ -41,6 +41,16 @@ cut_fault o text a b f u e w = record {
       w;
 }
 
+pub whole_done : (o : OptionsData) (text : List ℕ) (a b : Option (List ℕ)) (events : List PlainEvent) → IsUtf8 text
+    → machine_answer o text ≡ Ok events → Appends a b (event_lines events)
+    → WholeOutput (Answers o text) a b status.Done
+whole_done o text a b events u e w = record {
+  output = event_lines events;
+  called =
+      (u, (events, e, refl));
+  wrote = w;
+}
+
 pub whole_fault : (o : OptionsData) (text : List ℕ) (a b : Option (List ℕ)) (f : Fault) → IsUtf8 text
     → machine_answer o text ≡ Err f
     → Appends a b (fault_line f) → WholeOutput (Answers o text) a b status.Fault
@@ -62,7 +72,7 @@ pub whole_not_utf8 : (o : OptionsData) (bytes : List ℕ) (a b : Option (List �
     → Appends a b (not_utf8_line n) → WholeOutput (Answers o bytes) a b status.NotUtf8
 whole_not_utf8 o bytes a b n u e w = record { output = not_utf8_line n; called = (u, ap not_utf8_line e); wrote = w }
 
-pub event_has_some : (e : PlainEvent) → 0 < length (event_line e)
+event_has_some : (e : PlainEvent) → 0 < length (event_line e)
 unfolding event_line
 event_has_some e = line_has_some _
 

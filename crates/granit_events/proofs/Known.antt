@@ -36,32 +36,6 @@ wrote_part a b c n output some p k = record {
   wrote = appends_then_keeps a b c (take n output) p k;
 }
 
--- some bytes of an output are written, and a front of the rest
-pub front_behind : (a b c : Option (List ℕ)) (xs ys : List ℕ) → Appends a b xs → WroteFront b c ys
-    → WroteFront a c (xs ++ ys)
-front_behind a b c xs ys p w = record {
-  front = xs ++ w.front;
-  rest = w.rest;
-  parts = ap (λ (zs : List ℕ). xs ++ zs) w.parts ∙ sym (append_assoc xs w.front w.rest);
-  unwritten = w.unwritten;
-  wrote = appends_both a b c xs w.front p w.wrote;
-}
-
--- a front of a front is a front
-pub front_of_front : (a b : Option (List ℕ)) (xs ys : List ℕ) → WroteFront a b xs → WroteFront a b (xs ++ ys)
-front_of_front a b xs ys w = record {
-  front = w.front;
-  rest = w.rest ++ ys;
-  parts = ap (λ (zs : List ℕ). zs ++ ys) w.parts ∙ append_assoc w.front w.rest ys;
-  unwritten = omega (arith, length-append w.rest ys, w.unwritten);
-  wrote = w.wrote;
-}
-
--- all that was written is a front of more
-pub whole_is_front : (a b : Option (List ℕ)) (xs ys : List ℕ) → 0 < length ys → Appends a b xs
-    → WroteFront a b (xs ++ ys)
-whole_is_front a b xs ys some p = record { front = xs; rest = ys; parts = refl; unwritten = some; wrote = p }
-
 -- nothing is a front of an output that has a byte
 pub nothing_is_front : (a b : Option (List ℕ)) (output : List ℕ) → 0 < length output → Keeps a b → WroteFront a b output
 nothing_is_front a b output some k = record {

@@ -1,5 +1,4 @@
 pub mod AnswerLemmas
 pub mod Known
-pub mod Reaching
 pub mod RunLemmas
 pub mod UnderstoodLemmas

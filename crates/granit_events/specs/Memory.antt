@@ -21,5 +21,5 @@ pub record MemoryOut : Type 0 where
   pub faults : ℕ
 
 -- whether a call is among those that fail
-abbrev pub is_among : ℕ → List ℕ → Bool
-is_among call failing = list_any (λ n. n == call) failing
+abbrev pub call_fails : ℕ → List ℕ → Bool
+call_fails call failing = list_any (λ n. n == call) failing

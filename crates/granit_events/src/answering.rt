@@ -10,16 +10,15 @@ ghost use Rattle.granit_events.specs.Ended.{Answers, not_utf8_line};
 ghost use Rattle.granit_events.specs.Inputs.{Responds};
 ghost use Rattle.granit_events.specs.Output.{CutOutput, WholeOutput};
 ghost use Rattle.granit_events.specs.Wrote.{WroteFront};
-ghost use Rattle.granit_events.specs.declared.lines.WriteEnd.TheVariants as ends;
+ghost use Rattle.granit_events.specs.declared.writing.WriteEnd.TheVariants as ends;
 
 use crate::ends::Sink;
 use crate::input::Input;
-use crate::lines::{WriteEnd, write_events};
 use crate::saying;
 use crate::status::Status;
-use crate::writing::write_all;
+use crate::writing::{WriteEnd, write_all};
 use granit_error::{ErrorKind, Options, ScanError};
-use granit_load::load_str;
+use granit_load::load_lines;
 use std::alloc::Global;
 
 /// Whether memory ran out.
@@ -70,9 +69,9 @@ fn answer_text<W: Sink>(
     ensures failed { result ≡ Err ends.Failed → Rose (W.faults sink.old) (W.faults sink.new) }
     ensures no_memory { result ≡ Err ends.NoMemory → W.faults sink.new ≡ W.faults sink.old }
 {
-    match load_str(alloc, text, options) {
-        Ok(events) => {
-            write_events(alloc, sink, events.as_slice())?;
+    match load_lines(alloc, text, options) {
+        Ok(page) => {
+            write_all(sink, page.as_slice())?;
             Ok(Status::Done)
         }
         Err(error) => {

@@ -5,7 +5,6 @@ mod answering;
 mod ends;
 mod filling;
 mod input;
-mod lines;
 mod memory;
 mod outside;
 mod plain;

@@ -5,7 +5,7 @@ ghost use Rattle.std.specs.Io.{ReadsAtMost, WritesAtMost};
 ghost use Rattle.std.specs.Io.KnownBytes.{ReadConsumes, WriteAppends};
 ghost use Rattle.granit_base.specs.Counts.{next_count, Rose};
 ghost use Rattle.granit_events.specs.Counts.{held_count};
-ghost use Rattle.granit_events.specs.Memory.{is_among};
+ghost use Rattle.granit_events.specs.Memory.{call_fails};
 
 use crate::ends::{Failed, Sink, Source};
 use crate::filling::fill;
@@ -81,7 +81,7 @@ impl Source for MemorySource {
         ensures counted { MatchResult result (λ _. self.new.faults ≡ self.old.faults)
             (λ _. self.new.faults ≡ next_count self.old.faults) }
         ensures calls { self.new.calls ≡ next_count self.old.calls }
-        ensures fails { is_ok result ≡ not (is_among self.new.calls self.old.failing) }
+        ensures fails { is_ok result ≡ not (call_fails self.new.calls self.old.failing) }
         ensures count { IfOk result (λ n. n ≡ min (min (length self.old.left) self.old.most) (length buf.new)) }
         ensures kept { (self.new.most ≡ self.old.most) × (self.new.failing ≡ self.old.failing) }
     {
@@ -189,7 +189,7 @@ impl Sink for MemorySink {
         ensures counted { MatchResult result (λ _. self.new.faults ≡ self.old.faults)
             (λ _. self.new.faults ≡ next_count self.old.faults) }
         ensures calls { self.new.calls ≡ next_count self.old.calls }
-        ensures fails { is_ok result ≡ not (is_among self.new.calls self.old.failing
+        ensures fails { is_ok result ≡ not (call_fails self.new.calls self.old.failing
             || (not (length piece.now == 0) && length self.old.written == self.old.room)) }
         ensures count { IfOk result (λ n. n ≡ min (min (length piece.now) self.old.most)
             (self.old.room - length self.old.written)) }

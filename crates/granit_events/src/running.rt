@@ -13,10 +13,10 @@ ghost use Rattle.granit_events.specs.declared.status.Status.TheVariants as statu
 use crate::answering::respond;
 use crate::ends::{Sink, Source};
 use crate::input::{InputEnd, take_input};
-use crate::lines::WriteEnd;
 use crate::plain::{PlainSink, PlainSource};
 use crate::status::Status;
 use crate::testing::selftest;
+use crate::writing::WriteEnd;
 use granit_base::TextList;
 use granit_words::begin_selftest;
 use std::alloc::Global;

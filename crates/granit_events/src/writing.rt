@@ -3,8 +3,33 @@ ghost use Rattle.std.specs.Prelude.{◌≡◌, OnOk, OnErr};
 ghost use Rattle.std.specs.Io.KnownBytes.{Appends};
 ghost use Rattle.granit_base.specs.Counts.{Rose};
 ghost use Rattle.granit_events.specs.Wrote.{WroteFront};
+ghost use Rattle.granit_events.specs.declared.writing.WriteEnd.TheVariants as ends;
 
 use crate::ends::{Failed, Sink};
+use granit_base::NoMemory;
+
+/// Why an output was not written to its end.
+#[derive(Clone, Copy, Debug, PartialEq, Eq)]
+pub enum WriteEnd {
+    Failed,
+    NoMemory,
+}
+
+impl From<Failed> for WriteEnd {
+    ghost from_gives = { λ _ e. e ≡ ends.Failed };
+
+    fn from(_: Failed) -> WriteEnd {
+        WriteEnd::Failed
+    }
+}
+
+impl From<NoMemory> for WriteEnd {
+    ghost from_gives = { λ _ e. e ≡ ends.NoMemory };
+
+    fn from(_: NoMemory) -> WriteEnd {
+        WriteEnd::NoMemory
+    }
+}
 
 /// Writes all these bytes.
 ///

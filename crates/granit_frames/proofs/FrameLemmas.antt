@@ -10,7 +10,7 @@ use Rattle.granit_machine.specs.Frames as spec
 use Rattle.granit_machine.specs.Giving.{no_properties, properties_on, below_properties, anchor_number, tag_value}
 use Rattle.granit_machine.specs.Giving.{span_with_tag, key_indent, tell_anchor, flush_held, put, node_event_by}
 use Rattle.granit_machine.specs.NodeEnds.{block_count}
-use Rattle.granit_frames.specs.declared.state.NodeProperties.{NodeProperties}
+use Rattle.granit_node_properties.specs.declared.properties.NodeProperties.{NodeProperties}
 use Rattle.granit_frames.specs.StateViews.{all_frames, has_properties}
 use Rattle.granit_nesting.specs.declared.frames.Frame.{Frame}
 use Rattle.granit_nesting.specs.declared.frames.Frame.TheVariants as frames

@@ -3,26 +3,14 @@ use Rattle.std.specs.Prelude.{ℕ, Bool, true, false, List, ◌∷◌, map, Opti
 use Rattle.std.specs.Option.{option_map}
 use Rattle.granit_base.specs.Written.{Written}
 use Rattle.granit_event.specs.Events.{plain_events, plain_version}
-use Rattle.granit_lexemes.specs.Source.{Source}
-use Rattle.granit_lexemes.specs.PlainEvent.{PlainTag, EventKind, Scalar, SequenceStart, MappingStart}
 use Rattle.granit_machine.specs.Frames as spec
 use Rattle.granit_nesting.specs.declared.frames.Frame.{Frame}
 use Rattle.granit_nesting.specs.FrameViews.{frames_view}
+use Rattle.granit_node_properties.specs.PropertyViews.{properties_view}
+use Rattle.granit_node_properties.specs.declared.properties.NodeProperties.{NodeProperties}
 use Rattle.granit_frames.specs.declared.state.DocumentStage.{DocumentStage}
 use Rattle.granit_frames.specs.declared.state.DocumentStage.TheVariants as documents
-use Rattle.granit_frames.specs.declared.state.NodeAnchor.{NodeAnchor}
-use Rattle.granit_frames.specs.declared.state.NodeTag.{NodeTag}
-use Rattle.granit_frames.specs.declared.state.NodeProperties.{NodeProperties}
 use Rattle.granit_frames.specs.declared.state.Waiting.{Waiting}
-
-abbrev pub anchor_view : NodeAnchor → ℕ × Written × Source
-anchor_view a = (a.number, a.name, record { start = a.start; end = a.end })
-
-abbrev pub tag_view : NodeTag → PlainTag × Source
-tag_view t = (t.tag, record { start = t.start; end = t.end })
-
-abbrev pub properties_view : NodeProperties → spec.NodeProperties
-properties_view q = record { anchor = option_map anchor_view q.anchor; tag = option_map tag_view q.tag; end = q.end }
 
 -- the innermost first, and properties inside all frames
 abbrev pub all_frames : Option NodeProperties → List Frame → List spec.Frame
@@ -55,10 +43,3 @@ handles_view es = map handle_view es
 
 abbrev pub waiting_view : Waiting → spec.Waiting
 waiting_view w = record { at = w.at; room = w.room; held = plain_events w.held.items }
-
--- a node's event with the number of an anchor and a tag
-abbrev pub bears : EventKind → ℕ → Option PlainTag → EventKind
-bears (Scalar text style none untagged) number tag = Scalar text style number tag
-bears (SequenceStart style none untagged) number tag = SequenceStart style number tag
-bears (MappingStart style none untagged) number tag = MappingStart style number tag
-bears kind number tag = kind

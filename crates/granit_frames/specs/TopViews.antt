@@ -3,8 +3,8 @@ use Rattle.std.specs.Prelude.{List, [], ◌∷◌, reverse}
 use Rattle.granit_machine.specs.Frames as spec
 use Rattle.granit_frames.specs.declared.state.Top.{Top}
 use Rattle.granit_frames.specs.declared.state.Top.TheVariants as tops
-use Rattle.granit_frames.specs.StateViews.{properties_view}
 use Rattle.granit_nesting.specs.FrameViews.{frame_view, frames_view}
+use Rattle.granit_node_properties.specs.PropertyViews.{properties_view}
 
 abbrev pub top_view : Top → List spec.Frame
 top_view tops.Outside = []

@@ -3,15 +3,16 @@ ghost use Rattle.std.specs.Prelude.{◌≡◌, false, Ok, IsOk, OnOk};
 ghost use Rattle.granit_error.specs.OptionsView.{options_of};
 ghost use Rattle.granit_sorts.specs.SortViews.{sort_view, machine_token};
 ghost use Rattle.granit_frames.specs.Outside.{NoneWaitsOutside};
-ghost use Rattle.granit_frames.specs.StateViews.{properties_view};
 ghost use Rattle.granit_machine.specs.Closing as closing;
 ghost use Rattle.granit_nesting.specs.FrameViews.{pair_view, frames_view};
+ghost use Rattle.granit_node_properties.specs.PropertyViews.{properties_view};
 
-use crate::state::{NodeProperties, ParserState, Top};
+use crate::state::{ParserState, Top};
 use granit_base::NoMemory;
 use granit_error::Options;
 use granit_items::LexemeKind;
 use granit_nesting::{Frame, Frames, PairStage};
+use granit_node_properties::NodeProperties;
 use granit_sorts::{Token, TokenSort, ends_frame, is_key_in_block, is_right_of};
 
 fn goes_on_by_sort(right: bool, in_flow: bool, indentless: bool, sort: TokenSort) -> bool

@@ -80,11 +80,10 @@ impl<'input> ParserState<'input> {
             end,
             is_right: _,
         } = note;
-        let event = Event::Comment(text, placement);
         let span = Span::new(start, end);
         match self.waiting.take() {
             None => {
-                self.add_event(event, span)?;
+                self.add_event(Event::Comment(text, placement), span)?;
                 Ok(())
             }
             Some(mut waiting) => {
@@ -94,7 +93,7 @@ impl<'input> ParserState<'input> {
                         ScanError::from_kind(start, ErrorKind::TooManyComments),
                     ));
                 }
-                waiting.hold(event, span)?;
+                waiting.hold(Event::Comment(text, placement), span)?;
                 self.waiting = Some(waiting);
                 Ok(())
             }

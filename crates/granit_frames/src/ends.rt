@@ -1,26 +1,23 @@
 //! How nodes end and collections begin.
 ghost use Rattle.std.specs.Prelude.{◌≡◌, ◌<◌, ◌∷◌, false, length, None, IsOk, OnOk};
-ghost use Rattle.std.specs.Option.{option_map};
-ghost use Rattle.granit_base.specs.Written.{lent};
-ghost use Rattle.granit_base.specs.declared.style.ScalarStyle.TheVariants.{Plain};
 ghost use Rattle.granit_error.specs.OptionsView.{options_of};
 ghost use Rattle.granit_event.specs.Events.{event_kind};
 ghost use Rattle.granit_refused.specs.Answered.{answered};
 ghost use Rattle.granit_frames.specs.Refusing.{RefusesByFault};
-ghost use Rattle.granit_frames.specs.StateViews.{tag_view, bears, has_properties};
-ghost use Rattle.granit_lexemes.specs.PlainEvent as plain;
+ghost use Rattle.granit_frames.specs.StateViews.{has_properties};
 ghost use Rattle.granit_machine.specs.Frames as spec;
 ghost use Rattle.granit_machine.specs.Giving as giving;
 ghost use Rattle.granit_machine.specs.Leaving.{LeavesIfRoom};
 ghost use Rattle.granit_machine.specs.NodeEnds as ends;
 ghost use Rattle.granit_nesting.specs.FrameViews.{frame_view, pair_view};
+ghost use Rattle.granit_node_properties.specs.PropertyViews.{bears};
 
-use crate::giving::null_event;
-use crate::state::{DocumentStage, NodeTag, ParserState, Top, Waiting};
-use granit_base::{Marker, NoMemory, ScalarStyle, Span, Text};
+use crate::state::{DocumentStage, ParserState, Top, Waiting};
+use granit_base::{Marker, NoMemory, Span};
 use granit_error::{ErrorKind, Options, ScanError};
 use granit_event::Event;
 use granit_nesting::{Frame, PairStage};
+use granit_node_properties::{null_event, null_of};
 use granit_refused::{Refused, refuse};
 use std::alloc::Global;
 use std::collections::VecDeque;
@@ -313,6 +310,7 @@ impl<'input> ParserState<'input> {
         ensures kept { self.new.kept ≡ self.old.kept }
     {
         if options.block_nesting_limit <= self.block_count() {
+            drop(event);
             return Err(refuse(
                 fault,
                 ScanError::from_kind(mark, ErrorKind::RecursionLimitExceeded),
@@ -336,16 +334,5 @@ impl<'input> ParserState<'input> {
             held: VecDeque::new(alloc),
         });
         Ok(())
-    }
-}
-
-/// The empty node of a tag.
-fn null_of<'input>(tag: &Option<NodeTag>) -> Event<'input>
-    ensures { event_kind result
-        ≡ plain.Scalar (lent (ends.null_text (option_map tag_view tag.now))) Plain 0 None }
-{
-    match tag {
-        None => null_event(),
-        Some(_) => Event::Scalar(Text::borrowed(""), ScalarStyle::Plain, 0, None),
     }
 }

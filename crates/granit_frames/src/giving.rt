@@ -4,21 +4,17 @@ ghost use Rattle.std.specs.Prelude.{slice_get, IsOk, OnOk};
 ghost use Rattle.std.specs.Option.{option_map};
 ghost use Rattle.granit_error.specs.OptionsView.{options_of};
 ghost use Rattle.granit_event.specs.Events.{event_kind, plain_event};
-ghost use Rattle.granit_frames.specs.StateViews.{anchor_view, tag_view, properties_view, bears, has_properties};
-ghost use Rattle.granit_lexemes.specs.PlainEvent as plain;
+ghost use Rattle.granit_frames.specs.StateViews.{has_properties};
 ghost use Rattle.granit_machine.specs.Giving as giving;
+ghost use Rattle.granit_node_properties.specs.PropertyViews.{anchor_view, properties_view, bears};
 
-use crate::state::{NodeAnchor, NodeProperties, NodeTag, ParserState};
-use granit_base::{Marker, NoMemory, ScalarStyle, Span, Text};
+use crate::state::ParserState;
+use granit_base::{Marker, NoMemory, Span};
 use granit_error::Options;
-use granit_event::{Event, Tag};
-
-/// An empty node (YAML 1.2.2, 7.2).
-pub fn null_event<'input>() -> Event<'input>
-    ensures { event_kind result ≡ giving.null_kind }
-{
-    Event::Scalar(Text::borrowed("~"), ScalarStyle::Plain, 0, None)
-}
+use granit_event::Event;
+use granit_node_properties::{
+    NodeAnchor, NodeProperties, anchor_number, bear, null_event, span_with_tag, tag_value,
+};
 
 // Events and held comments.
 impl<'input> ParserState<'input> {
@@ -28,7 +24,10 @@ impl<'input> ParserState<'input> {
             ≡ record self.old { given = self.old.given ++ plain_event (event.entry, span) ∷ [] }) }
         ensures kept { self.new.kept ≡ self.old.kept }
     {
-        self.given.reserve(1)?;
+        if self.given.reserve(1).is_err() {
+            drop(event);
+            return Err(NoMemory);
+        }
         self.given.push_back_reserved((event, span));
         Ok(())
     }
@@ -77,9 +76,15 @@ impl<'input> ParserState<'input> {
         ensures kept { self.new.kept ≡ self.old.kept }
     {
         // no call between: each would copy the event twice
-        self.flush()?;
+        if self.flush().is_err() {
+            drop(event);
+            return Err(NoMemory);
+        }
         self.last_end = span.end;
-        self.given.reserve(1)?;
+        if self.given.reserve(1).is_err() {
+            drop(event);
+            return Err(NoMemory);
+        }
         self.given.push_back_reserved((event, span));
         Ok(())
     }
@@ -121,86 +126,6 @@ impl<'input> ParserState<'input> {
                 self.flush()
             }
         }
-    }
-}
-
-/// The number of its anchor and its tag stand in a node's event.
-#[inline(always)]
-fn bear(event: &mut Event<'_>, number: usize, tag: Option<Tag>)
-    ensures { event_kind event.new ≡ bears (event_kind event.old) number tag }
-{
-    // in place: taken apart and made anew, an event is copied in each of thirteen arms
-    match event {
-        Event::Scalar(_, _, anchor, _) => *anchor = number,
-        Event::SequenceStart(_, anchor, _) => *anchor = number,
-        Event::MappingStart(_, anchor, _) => *anchor = number,
-        Event::StreamStart => {}
-        Event::StreamEnd => {}
-        Event::DocumentStart(_, _) => {}
-        Event::DocumentEnd => {}
-        Event::Alias(_) => {}
-        Event::Anchor(_, _) => {}
-        Event::UnresolvedAlias(_) => {}
-        Event::Comment(_, _) => {}
-        Event::SequenceEnd => {}
-        Event::MappingEnd => {}
-    }
-    match event {
-        Event::Scalar(_, _, _, place) => *place = tag,
-        Event::SequenceStart(_, _, place) => *place = tag,
-        Event::MappingStart(_, _, place) => *place = tag,
-        Event::StreamStart => {}
-        Event::StreamEnd => {}
-        Event::DocumentStart(_, _) => {}
-        Event::DocumentEnd => {}
-        Event::Alias(_) => {}
-        Event::Anchor(_, _) => {}
-        Event::UnresolvedAlias(_) => {}
-        Event::Comment(_, _) => {}
-        Event::SequenceEnd => {}
-        Event::MappingEnd => {}
-    }
-}
-
-/// The number of a node's anchor, 0 where it has none.
-fn anchor_number(anchor: &Option<NodeAnchor<'_>>) -> usize
-    ensures { result ≡ giving.anchor_number (option_map anchor_view anchor.now) }
-{
-    match anchor {
-        None => 0,
-        Some(anchor) => anchor.number,
-    }
-}
-
-fn tag_value(tag: Option<NodeTag>) -> Option<Tag>
-    ensures { result ≡ giving.tag_value (option_map tag_view tag) }
-{
-    match tag {
-        None => None,
-        Some(tag) => Some(tag.tag),
-    }
-}
-
-/// How many characters a span says that a tag has: 0 where 32 bits are too few.
-fn told_length(start: Marker, end: Marker) -> u32
-    ensures { result ≡ plain.told_length (end.place.index - start.place.index) }
-{
-    let length = end.index().saturating_sub(start.index());
-    if length <= u32::MAX as usize {
-        length as u32
-    } else {
-        0
-    }
-}
-
-/// The same span with the place of a node's tag.
-fn span_with_tag(tag: &Option<NodeTag>, start: Marker, end: Marker, indent: Option<usize>) -> Span
-    ensures { result ≡ giving.span_with_tag (option_map tag_view tag.now) (record { start = start; end = end }) indent }
-{
-    let span = Span::new(start, end).with_indent(indent);
-    match tag {
-        None => span,
-        Some(tag) => span.with_tag_span(Some((tag.start, told_length(tag.start, tag.end)))),
     }
 }
 
@@ -282,7 +207,10 @@ impl<'input> ParserState<'input> {
         let span = span_with_tag(&tag, start, end, column);
         let number = anchor_number(&anchor);
         bear(&mut event, number, tag_value(tag));
-        self.give(event, span)?;
+        if self.give(event, span).is_err() {
+            drop(anchor);
+            return Err(NoMemory);
+        }
         self.tell_anchor(options, anchor)
     }
 
@@ -330,9 +258,15 @@ impl<'input> ParserState<'input> {
         let column = self.key_indent(indent);
         bear(&mut event, 0, None);
         // as `give`, with no call between: it would copy the event twice
-        self.flush()?;
+        if self.flush().is_err() {
+            drop(event);
+            return Err(NoMemory);
+        }
         self.last_end = end;
-        self.given.reserve(1)?;
+        if self.given.reserve(1).is_err() {
+            drop(event);
+            return Err(NoMemory);
+        }
         let mut span = Span::new(start, end);
         span.indent = column;
         self.given.push_back_reserved((event, span));

@@ -13,9 +13,9 @@ mod properties;
 mod refused;
 mod state;
 
-pub use giving::null_event;
 pub use granit_nesting::{Frame, Frames, PairStage};
+pub use granit_node_properties::{NodeAnchor, NodeProperties, NodeTag, null_event};
 pub use granit_sorts::{Token, TokenSort, token_sort};
 pub use names::length_of;
 pub use refused::misplaced;
-pub use state::{DocumentStage, NodeAnchor, NodeProperties, NodeTag, ParserState, Top};
+pub use state::{DocumentStage, ParserState, Top};

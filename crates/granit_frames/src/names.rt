@@ -30,13 +30,14 @@ fn number_of<'input>(names: &BTreeMap<Text<'input>, usize>, name: &Text<'input>)
 #[tactic(auto, using(crate::proofs::EntryLemmas::name_inserted))]
 pub(crate) fn remember_name<'input>(
     names: &mut BTreeMap<Text<'input>, usize>,
-    name: Text<'input>,
+    alloc: Global,
+    name: &Text<'input>,
     number: usize,
 ) -> Result<(), NoMemory>
-    ensures { OnOk result (names_view names.new.entries ≡ remembered name.entry.characters number
+    ensures { OnOk result (names_view names.new.entries ≡ remembered name.now.characters number
         (names_view names.old.entries)) }
 {
-    names.insert(name, number)?;
+    names.insert(name.try_clone(alloc)?, number)?;
     Ok(())
 }
 
@@ -67,6 +68,20 @@ fn remember_handle<'input>(
 {
     handles.insert(handle, prefix)?;
     Ok(())
+}
+
+/// The same for copies of both.
+fn remember_copies<'input>(
+    handles: &mut BTreeMap<Text<'input>, Text<'input>>,
+    alloc: Global,
+    handle: &Text<'input>,
+    prefix: &Text<'input>,
+) -> Result<(), NoMemory>
+    ensures { OnOk result (handles_view handles.new.entries
+        ≡ remembered handle.now.characters prefix.now.characters (handles_view handles.old.entries)) }
+{
+    let handle = handle.try_clone(alloc)?;
+    remember_handle(handles, handle, prefix.try_clone(alloc)?)
 }
 
 /// How many characters a text has.
@@ -134,11 +149,7 @@ impl<'input> ParserState<'input> {
             ≡ declared stays handle.entry.characters prefix.entry.characters self.old) }
     {
         if stays {
-            remember_handle(
-                &mut self.kept,
-                handle.try_clone(alloc)?,
-                prefix.try_clone(alloc)?,
-            )?;
+            remember_copies(&mut self.kept, alloc, &handle, &prefix)?;
         }
         remember_handle(&mut self.handles, handle, prefix)
     }

@@ -1,14 +1,15 @@
 //! Properties of a node that must come (YAML 1.2.2, 6.9).
 ghost use Rattle.std.specs.Prelude.{◌≡◌, Some, OnOk};
 ghost use Rattle.granit_sorts.specs.SortViews.{machine_token};
-ghost use Rattle.granit_frames.specs.StateViews.{anchor_view, tag_view};
 ghost use Rattle.granit_machine.specs.Giving as giving;
 ghost use Rattle.granit_machine.specs.NodeSteps as steps;
+ghost use Rattle.granit_node_properties.specs.PropertyViews.{anchor_view, tag_view};
 
 use crate::names::remember_name;
-use crate::state::{NodeAnchor, NodeProperties, NodeTag, ParserState};
+use crate::state::ParserState;
 use granit_base::{NoMemory, Text};
 use granit_event::Tag;
+use granit_node_properties::{NodeAnchor, NodeProperties, NodeTag};
 use granit_sorts::Token;
 use std::alloc::Global;
 
@@ -24,23 +25,15 @@ impl<'input> ParserState<'input> {
             }) self.old }
     {
         let end = anchor.end;
-        let anchor = Some(anchor);
-        match self.properties.take() {
-            None => {
-                self.properties = Some(NodeProperties {
-                    anchor,
-                    tag: None,
-                    end,
-                })
-            }
-            Some(properties) => {
-                self.properties = Some(NodeProperties {
-                    anchor,
-                    tag: properties.tag,
-                    end,
-                })
-            }
-        }
+        let tag = match self.properties.take() {
+            None => None,
+            Some(properties) => properties.tag,
+        };
+        self.properties = Some(NodeProperties {
+            anchor: Some(anchor),
+            tag,
+            end,
+        });
     }
 
     /// A tag of the node that must come.
@@ -54,23 +47,15 @@ impl<'input> ParserState<'input> {
             }) self.old }
     {
         let end = tag.end;
-        let tag = Some(tag);
-        match self.properties.take() {
-            None => {
-                self.properties = Some(NodeProperties {
-                    anchor: None,
-                    tag,
-                    end,
-                })
-            }
-            Some(properties) => {
-                self.properties = Some(NodeProperties {
-                    anchor: properties.anchor,
-                    tag,
-                    end,
-                })
-            }
-        }
+        let anchor = match self.properties.take() {
+            None => None,
+            Some(properties) => properties.anchor,
+        };
+        self.properties = Some(NodeProperties {
+            anchor,
+            tag: Some(tag),
+            end,
+        });
     }
 
     /// An anchor where it stands: the next number is that of its name from now on, and of the node that must come.
@@ -91,7 +76,7 @@ impl<'input> ParserState<'input> {
         let Some(number) = self.count.checked_add(1) else {
             return Err(NoMemory);
         };
-        remember_name(&mut self.names, name.try_clone(alloc)?, number)?;
+        remember_name(&mut self.names, alloc, &name, number)?;
         self.count = number;
         self.set_anchor(NodeAnchor {
             number,

@@ -5,14 +5,15 @@ ghost use Rattle.granit_frames.specs.TopViews.{top_view};
 ghost use Rattle.granit_machine.specs.Frames.{parser_start};
 
 use granit_base::{Marker, Span, Text};
-use granit_event::{Event, Tag, YamlVersion};
+use granit_event::{Event, YamlVersion};
 use granit_nesting::{Frame, Frames};
+use granit_node_properties::NodeProperties;
 use std::alloc::Global;
 use std::collections::{BTreeMap, VecDeque};
 use std::marker::Model;
 
 /// Where a stream stands around its documents (YAML 1.2.2, 9.2).
-#[derive(Clone, Copy, Debug, PartialEq, Eq)]
+#[derive(Clone, Copy)]
 pub enum DocumentStage {
     /// Before a document that directives may begin.
     Fresh,
@@ -24,41 +25,6 @@ pub enum DocumentStage {
     BehindRoot,
     /// Behind a document that `...` didn't end.
     Between,
-}
-
-/// An anchor of a node: its number, its name, and where it stands.
-#[derive(Drop)]
-pub struct NodeAnchor<'input> {
-    /// How many anchors were read up to it.
-    pub number: usize,
-    /// Its name.
-    pub name: Text<'input>,
-    /// Where it begins with its `&`.
-    pub start: Marker,
-    /// The place behind it.
-    pub end: Marker,
-}
-
-/// A tag of a node, and where it stands.
-#[derive(Drop)]
-pub struct NodeTag {
-    /// Its handle and what follows that, with what the handle stands for.
-    pub tag: Tag,
-    /// Where it begins with its `!`.
-    pub start: Marker,
-    /// The place behind it.
-    pub end: Marker,
-}
-
-/// The properties of a node that must come (YAML 1.2.2, 6.9).
-#[derive(Drop)]
-pub struct NodeProperties<'input> {
-    /// Its anchor.
-    pub anchor: Option<NodeAnchor<'input>>,
-    /// Its tag.
-    pub tag: Option<NodeTag>,
-    /// The place behind the last of them.
-    pub end: Marker,
 }
 
 /// A `-` or a `:` whose node hasn't begun.

@@ -1,10 +1,10 @@
 //! Worked examples, by computation.
 ghost use Rattle.std.specs.Prelude.{◌++◌, ◌≡◌, codes};
 ghost use Rattle.granit_generator.specs.BlockText.{block_characters};
-ghost use Rattle.granit_generator.specs.Examples.{nested_tree, worked_tree};
 ghost use Rattle.granit_generator.specs.Generator.{trees_made};
 ghost use Rattle.granit_model.specs.FlowText.{flow_characters};
 ghost use Rattle.granit_model.specs.Tree.{NoTrees, PlainTrees};
+ghost use Rattle.granit_model.specs.WorkedTrees.{nested_tree, worked_tree};
 
 /// The canonical block text, and generated trees by their canonical flow text.
 pub fn generator_examples()

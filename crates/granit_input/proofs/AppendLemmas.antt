@@ -3,9 +3,9 @@ use Rattle.std.proofs.Common.{◌≡◌, ℕ, ◌+◌, ◌<◌, Bool, List, [], 
 use Rattle.std.proofs.Common.{append_assoc, arith}
 use Rattle.std.proofs.lemmas.List.{append-nil}
 use Rattle.granit_base.specs.Place.{Unread, first}
-use Rattle.granit_input.specs.Chunks.{Extends, BreaksOff}
+use Rattle.granit_runs.specs.Chunks.{Extends, BreaksOff}
 use Rattle.granit_input.proofs.UnreadLemmas.{past_none}
-use Rattle.granit_input.proofs.WhiteLemmas.{take_more}
+use Rattle.granit_runs.proofs.WhiteLemmas.{take_more}
 
 pub extends_none : (before : List ℕ) → Extends before before
 extends_none before = record { added = []; is = sym (append-nil before) }

@@ -23,9 +23,10 @@ use Rattle.std.specs.Borrow.{Bor}
 use Rattle.std.specs.Option.{option_map}
 use Rattle.granit_base.specs.Spans.{CutsOut}
 use Rattle.granit_base.specs.Place.{Unread}
-use Rattle.granit_input.specs.Origin.{Origin, Goes, Agrees, LentBetween, PartOf}
-use Rattle.granit_input.specs.Unread.{Spells, utf8_length, past_count}
-use Rattle.granit_input.specs.Words.{LendsWords}
+use Rattle.granit_input.specs.Origin.{Origin, Goes, Agrees, LentBetween}
+use Rattle.granit_runs.specs.Cuts.{PartOf}
+use Rattle.granit_runs.specs.Unread.{Spells, utf8_length, past_count}
+use Rattle.granit_runs.specs.Words.{LendsWords}
 use Rattle.granit_input.proofs.UnreadLemmas.{past_offset}
 
 pub spells_utf8 : (bytes : List ℕ) (at : ℕ) (text : List ℕ) → Spells bytes at text → IsUtf8 (drop at bytes)

@@ -1,16 +1,7 @@
 pub mod AppendLemmas
-pub mod AsciiLemmas
-pub mod HoldsLemmas
-pub mod LaneLemmas
 pub mod LendLemmas
-pub mod LineLemmas
 pub mod OriginLemmas
-pub mod PrintableLemmas
-pub mod QuoteLemmas
+pub mod QuoteTakes
 pub mod QuotedLemmas
-pub mod RunLemmas
-pub mod StringLemmas
 pub mod StringWords
 pub mod UnreadLemmas
-pub mod WhiteLemmas
-pub mod WordLemmas

@@ -5,8 +5,8 @@ use Rattle.std.specs.Str.{chars}
 use Rattle.std.proofs.lemmas.Bool.{cases_Bool}
 use Rattle.std.proofs.lemmas.Str.{chars-nil}
 use Rattle.granit_base.specs.Place.{Unread, first}
-use Rattle.granit_input.specs.Runs.{run_length, starts, is_quoted_ascii, is_quoted_char}
-use Rattle.granit_input.specs.Chunks.{TakesText}
+use Rattle.granit_runs.specs.Runs.{run_length, starts, is_quoted_ascii, is_quoted_char}
+use Rattle.granit_runs.specs.Chunks.{TakesText}
 use Rattle.granit_input.proofs.UnreadLemmas.{past_none}
 
 pub no_chars : length (chars []) ≡ 0

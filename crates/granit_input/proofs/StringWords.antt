@@ -9,15 +9,15 @@ use Rattle.std.proofs.lemmas.List.{drop-drop, length-append, length-drop}
 use Rattle.granit_base.specs.Classes.{is_blank, is_blank_or_breakz, is_break, is_breakz, is_flow, is_z}
 use Rattle.granit_base.specs.Place.{Unread, first}
 use Rattle.granit_base.specs.PlainContent.{is_content}
-use Rattle.granit_input.specs.Cuts.{SpellsFront}
-use Rattle.granit_input.specs.Runs.{begins_word, is_plain_word, run_length, starts}
-use Rattle.granit_input.specs.Unread.{left_of, past_count, utf8_length}
-use Rattle.granit_input.specs.White.{is_skipped}
-use Rattle.granit_input.specs.declared.whitespace.SkipTabs.TheVariants.{No}
-use Rattle.granit_input.specs.Words.{AreWords, EndsLine, EndsWords, LendsWords, SplitsLineEnd, SplitsWords, stops_words}
-use Rattle.granit_input.proofs.AsciiLemmas.{spells_on}
-use Rattle.granit_input.proofs.RunLemmas.{front_whole, run_within}
-use Rattle.granit_input.proofs.StringLemmas.{past_bytes}
+use Rattle.granit_runs.specs.Cuts.{SpellsFront}
+use Rattle.granit_runs.specs.Runs.{begins_word, is_plain_word, run_length, starts}
+use Rattle.granit_runs.specs.Unread.{left_of, past_count, utf8_length}
+use Rattle.granit_runs.specs.White.{is_skipped}
+use Rattle.granit_runs.specs.declared.whitespace.SkipTabs.TheVariants.{No}
+use Rattle.granit_runs.specs.Words.{AreWords, EndsLine, EndsWords, LendsWords, SplitsLineEnd, SplitsWords, stops_words}
+use Rattle.granit_runs.proofs.AsciiLemmas.{spells_on}
+use Rattle.granit_runs.proofs.RunLemmas.{front_whole, run_within}
+use Rattle.granit_runs.proofs.StringLemmas.{past_bytes}
 
 -- ---- behind words no word goes on
 

@@ -8,7 +8,7 @@ use Rattle.std.proofs.lemmas.Bool.Decides.{nat_tests}
 use Rattle.std.proofs.lemmas.Str.{encodes-append}
 use Rattle.std.proofs.Math.Seq.{take-add}
 use Rattle.granit_base.specs.Place.{Unread, past_first}
-use Rattle.granit_input.specs.Unread.{past_count, utf8_length}
+use Rattle.granit_runs.specs.Unread.{past_count, utf8_length}
 
 pub past_text : (n : ℕ) (u : Unread) → (past_count n u).text ≡ drop n u.text
 unfolding past_count

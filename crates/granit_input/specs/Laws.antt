@@ -4,7 +4,7 @@ use Rattle.std.proofs.Common.{le_of_eq, arith}
 use Rattle.std.specs.Str.{chars, is_utf8}
 use Rattle.granit_base.specs.Place.{Unread}
 use Rattle.granit_base.proofs.CharLemmas.{chars_len}
-use Rattle.granit_input.specs.Unread.{left_of, SpelledBy}
+use Rattle.granit_runs.specs.Unread.{left_of, SpelledBy}
 use Rattle.granit_input.specs.Origin.{Agrees, of_string}
 
 -- no more characters than bytes

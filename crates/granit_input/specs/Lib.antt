@@ -1,13 +1,4 @@
-pub mod Chunks
-pub mod Cuts
-pub mod Lanes
 pub mod Laws
-pub mod Lines
 pub mod Looks
 pub mod Origin
-pub mod Quotes
-pub mod Runs
 pub mod Strings
-pub mod Unread
-pub mod White
-pub mod Words

@@ -2,7 +2,7 @@
 use Rattle.std.specs.Prelude.{◌≡◌, ℕ, ◌==◌, ◌&&◌, ◌||◌, Bool, true, false, List, slice_index, Option, MatchOption}
 use Rattle.granit_base.specs.Classes.{is_blank_or_breakz, is_breakz}
 use Rattle.granit_base.specs.Place.{Unread, first}
-use Rattle.granit_input.specs.Unread.{past_count}
+use Rattle.granit_runs.specs.Unread.{past_count}
 
 -- the text begins with these characters, none of which is NUL
 abbrev pub begins_with_2 : ℕ → ℕ → List ℕ → Bool

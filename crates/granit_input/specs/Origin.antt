@@ -3,9 +3,9 @@ use Rattle.std.specs.Prelude.{◌≡◌, ◌≤◌, ◌&&◌, ◌||◌, ℕ, len
 use Rattle.std.specs.Prelude.{Some, IsNone, IsSome, is_some}
 use Rattle.std.specs.Borrow.{Bor}
 use Rattle.granit_base.specs.Place.{Unread}
-use Rattle.granit_base.specs.Spans.{Slices}
+use Rattle.granit_runs.specs.Cuts.{PartOf}
 use Rattle.granit_error.specs.FaultKind.{FaultKind}
-use Rattle.granit_input.specs.Unread.{SpelledBy}
+use Rattle.granit_runs.specs.Unread.{SpelledBy}
 
 pub record Origin : Type 1 where
   -- the bytes that `slice_bytes` reads, where it reads any
@@ -67,13 +67,7 @@ pub record Agrees (left : ℕ) (o : Origin) (u : Unread) : Type 0 where
   pub sliced : SpelledBy o.sliced u
   pub lent : SpelledBy o.lent u
 
--- the part of the source between two offsets, which is answered exactly where there is a source and both offsets lie
--- between its characters
-abbrev pub PartOf : Option (List ℕ) → ℕ → ℕ → Option (Bor (List ℕ)) → Type 0
-PartOf None start end answer = IsNone answer
-PartOf (Some bytes) start end answer = Slices bytes (Some (record { start = start; end = end })) answer
-
--- the same between two offsets that may be told
+-- the part of the source between two offsets that may be told
 abbrev pub LentBetween : Option (List ℕ) → Option ℕ → Option ℕ → Option (Bor (List ℕ)) → Type 0
 LentBetween source None end answer = IsNone answer
 LentBetween source (Some start) None answer = IsNone answer

@@ -4,10 +4,10 @@ use Rattle.std.specs.Borrow.{Bor}
 use Rattle.std.specs.Str.{chars}
 use Rattle.granit_base.specs.Place.{Unread}
 use Rattle.granit_input.specs.declared.str_input.StrInput.{StrInput}
-use Rattle.granit_input.specs.Chunks.{TakesText}
+use Rattle.granit_runs.specs.Chunks.{TakesText}
 use Rattle.granit_input.specs.Origin.{Origin, Goes, of_string}
-use Rattle.granit_input.specs.Runs.{run_length}
-use Rattle.granit_input.specs.Unread.{left_of}
+use Rattle.granit_runs.specs.Runs.{run_length}
+use Rattle.granit_runs.specs.Unread.{left_of}
 
 -- what is left of it
 abbrev pub LeftInString : StrInput → Unread → Type 0

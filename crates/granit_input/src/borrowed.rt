@@ -1,5 +1,5 @@
 //! Inputs whose text lies in a string that outlives them.
-ghost use Rattle.granit_input.specs.Origin.{PartOf};
+ghost use Rattle.granit_runs.specs.Cuts.{PartOf};
 
 use crate::input::Input;
 

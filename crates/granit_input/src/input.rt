@@ -11,31 +11,33 @@ ghost use Rattle.granit_base.specs.Place.{Unread, first};
 ghost use Rattle.granit_base.specs.Written.{string_chars};
 ghost use Rattle.granit_error.specs.FaultKind.{FaultKind};
 ghost use Rattle.granit_error.specs.Kinds.{kind_of};
-ghost use Rattle.granit_input.specs.Quotes.{TakesQuoted, quote_of};
-ghost use Rattle.granit_input.specs.Unread.{past_count};
-ghost use Rattle.granit_input.specs.Origin.{Origin, Goes, PartOf, error_given, Gave, Agrees};
-ghost use Rattle.granit_input.specs.Runs.{starts, run_test, is_line_char, is_quoted_ascii};
-ghost use Rattle.granit_input.specs.Runs.{is_quoted_char, can_be_plain};
+ghost use Rattle.granit_runs.specs.Quotes.{TakesQuoted, quote_of};
+ghost use Rattle.granit_runs.specs.Unread.{past_count};
+ghost use Rattle.granit_input.specs.Origin.{Origin, Goes, error_given, Gave, Agrees};
+ghost use Rattle.granit_runs.specs.Cuts.{PartOf};
+ghost use Rattle.granit_runs.specs.Runs.{starts, run_test, is_line_char, is_quoted_ascii};
+ghost use Rattle.granit_runs.specs.Runs.{is_quoted_char, can_be_plain};
 ghost use Rattle.granit_base.specs.PlainContent.{is_content};
-ghost use Rattle.granit_input.specs.Chunks.{SkipsRun, FetchesRun, SkipsFront, FetchesFront, Extends, TakesText};
-ghost use Rattle.granit_input.specs.Chunks.{count_of, front_count_of};
-ghost use Rattle.granit_input.specs.Lines.{TakesLines, lines_taken, is_visible};
+ghost use Rattle.granit_runs.specs.Chunks.{SkipsRun, FetchesRun, SkipsFront, FetchesFront, Extends, TakesText};
+ghost use Rattle.granit_runs.specs.Chunks.{count_of, front_count_of};
+ghost use Rattle.granit_runs.specs.Lines.{TakesLines, lines_taken, is_visible};
 ghost use Rattle.granit_input.specs.Looks.{begins_with_2, begins_with_3, is_document_start, is_document_end};
 ghost use Rattle.granit_input.specs.Looks.{is_document_indicator, ReadsNonBreakz};
-ghost use Rattle.granit_input.specs.White.{holds, SkipsBlanks, SkipsWhite};
-ghost use Rattle.granit_input.specs.Words.{TakesPlain, plain_taken};
+ghost use Rattle.granit_runs.specs.White.{holds, SkipsBlanks, SkipsWhite};
+ghost use Rattle.granit_runs.specs.Words.{TakesPlain, plain_taken};
 
-use crate::class::{Class, Run, begins_word, goes_on, is_quoted, is_quoted_ascii};
-use crate::whitespace::{SkipTabs, WhitespaceResult};
 use granit_base::{
     NoMemory, is_alpha, is_blank, is_blank_or_breakz, is_break, is_breakz, is_digit, is_flow,
     push_char,
 };
 use granit_error::ErrorKind;
+use granit_runs::{
+    Class, Run, SkipTabs, WhitespaceResult, begins_word, goes_on, is_quoted, is_quoted_ascii,
+};
 
 /// Characters to be read. At most a window of them may be looked at, and a look past the end gives
 /// NUL. Clauses on what is read speak of whatever is known to be left.
-#[tactic(auto, using(crate::proofs::RunLemmas::not_nul))]
+#[tactic(auto, using(granit_runs::proofs::RunLemmas::not_nul))]
 pub trait Input: Drop {
     /// This is known to be what is left.
     ghost unread: { Self → Unread → Type 0 };

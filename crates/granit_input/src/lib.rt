@@ -2,19 +2,10 @@
 #![tactic(auto)]
 
 mod borrowed;
-mod class;
-mod cuts;
 mod input;
-mod lanes;
-mod lines;
-mod quotes;
 mod str_input;
-mod whitespace;
-mod words;
 
 pub use borrowed::BorrowedInput;
-pub use class::{Class, Run};
-pub use cuts::find_unprintable;
+pub use granit_runs::{Class, Run, SkipTabs, WhitespaceResult, find_unprintable};
 pub use input::Input;
 pub use str_input::StrInput;
-pub use whitespace::{SkipTabs, WhitespaceResult};

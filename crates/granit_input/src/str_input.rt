@@ -2,21 +2,19 @@
 ghost use Rattle.std.specs.Prelude.{◌≡◌, ℕ, ◌-◌, ◌<◌, ◌≤◌, ◌^◌, true, false, Some, [], length, take, drop, min};
 ghost use Rattle.std.specs.Str.{chars, is_utf8};
 ghost use Rattle.granit_base.specs.Place.{Unread, first};
-ghost use Rattle.granit_input.specs.Cuts.{SpellsFront, last_bytes};
+ghost use Rattle.granit_runs.specs.Cuts.{SpellsFront, last_bytes};
 ghost use Rattle.granit_input.specs.Looks.{ReadsNonBreakz};
-ghost use Rattle.granit_input.specs.Runs.{run_length, run_test};
-ghost use Rattle.granit_input.specs.Unread.{past_count};
+ghost use Rattle.granit_runs.specs.Runs.{run_length, run_test};
+ghost use Rattle.granit_runs.specs.Unread.{past_count};
 
 use crate::borrowed::BorrowedInput;
-use crate::class::Run;
-use crate::cuts::{before, behind, has_byte, part, past_run, past_white};
 use crate::input::Input;
-use crate::lines::{behind_lines, lines_front};
-use crate::quotes::quoted_front;
-use crate::whitespace::{SkipTabs, WhitespaceResult};
-use crate::words::{past_line, split_words, stops_words};
 use granit_base::{NoMemory, is_at_end, is_breakz, nth_char, push_text, split_first_char};
 use granit_error::ErrorKind;
+use granit_runs::{
+    Run, SkipTabs, WhitespaceResult, before, behind, behind_lines, has_byte, lines_front, part,
+    past_line, past_run, past_white, quoted_front, split_words, stops_words,
+};
 
 /// The characters of a string. All of them may be looked at, so its window is the greatest from the start on.
 #[derive(Drop)]
@@ -75,10 +73,10 @@ impl<'a> Input for StrInput<'a> {
     ghost use Rattle.std.specs.Str.{chars};
     ghost use mir.Syntax.{named};
     ghost use Rattle.granit_input.specs.Laws.{string_short, string_agrees, string_floor};
-    ghost use Rattle.granit_input.specs.Runs.{starts, is_quoted_ascii, is_quoted_char};
+    ghost use Rattle.granit_runs.specs.Runs.{starts, is_quoted_ascii, is_quoted_char};
     ghost use Rattle.granit_input.specs.Strings.{LeftInString, MayLook, MovesBy, MovesIfSome, TakesRun, IsWhole};
     ghost use Rattle.granit_input.specs.Strings.{count_left, string_origin, window_of};
-    ghost use Rattle.granit_input.specs.White.{holds};
+    ghost use Rattle.granit_runs.specs.White.{holds};
     ghost use Rattle.granit_input.specs.contracts.str_input.StrInput.{the_row};
 
     ghost unread = { λ s u. LeftInString s u };

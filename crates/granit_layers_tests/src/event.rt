@@ -293,8 +293,10 @@ fn scalar(tag: Tag) -> Event<'static> {
 
 /// Both of a scalar with a copy of a tag.
 fn of_scalar_with(alloc: Global, tag: &Tag) -> Option<([bool; 4], Option<bool>)> {
-    let copy = tag.try_clone(alloc).ok()?;
-    Some(told_and_cloned(alloc, &scalar(copy), tag))
+    let event = scalar(tag.try_clone(alloc).ok()?);
+    let told = told_and_cloned(alloc, &event, tag);
+    drop(event);
+    Some(told)
 }
 
 /// The same of a tag that is made.
@@ -316,8 +318,9 @@ fn comment() -> Event<'static> {
     Event::Comment(Text::borrowed(" c"), Placement::Above)
 }
 
-fn is_anchor(event: &Event<'_>) -> bool {
-    *event == anchor()
+/// Whether an event is equal to one that is let go here.
+fn is_equal<T: PartialEq + Drop>(event: &T, other: T) -> bool {
+    *event == other
 }
 
 /// What an event tells: its anchor, its alias, and whether it is an alias, is a node, has no tag, and is that anchor.
@@ -325,12 +328,17 @@ fn told_of_event(event: &Event<'_>) -> ([Option<usize>; 2], [bool; 4]) {
     let numbers = [event.anchor_id(), event.alias_id()];
     let kinds = [event.is_alias(), event.is_node()];
     let is_untagged = event.tag().is_none();
-    (numbers, [kinds[0], kinds[1], is_untagged, is_anchor(event)])
+    (
+        numbers,
+        [kinds[0], kinds[1], is_untagged, is_equal(event, anchor())],
+    )
 }
 
 /// The same of an event that is let go here.
 fn asked(event: Event<'_>) -> ([Option<usize>; 2], [bool; 4]) {
-    told_of_event(&event)
+    let told = told_of_event(&event);
+    drop(event);
+    told
 }
 
 #[test]
@@ -352,7 +360,9 @@ fn events_without_tags(rt: HostRuntime) {
 
 /// Whether an event is the start of a document without a version.
 fn has_no_version(event: Event<'_>) -> bool {
-    event == Event::DocumentStart(true, None)
+    let has_none = is_equal(&event, Event::DocumentStart(true, None));
+    drop(event);
+    has_none
 }
 
 #[test]

@@ -1,11 +1,10 @@
-//! Parsers that lie on one another.
+//! Parsers that lie on one another. What asks a stack is generic in its parsers, and a stack is let go by a call:
+//! that is cheap to prove.
 use crate::agree::agree;
-use crate::letters::{Events, at, event, given, own, prints, push};
-use granit_base::Span;
-use granit_error::ScanError;
+use crate::letters::{Events, at, event, given, own, push, refused};
 use granit_event::Event;
-use granit_layers::{AnyKind, Layers};
-use granit_receivers::{EventReceiver, TryEventReceiver, TryLoadError};
+use granit_layers::{AnyKind, FromReplay, Layers, StackedParser};
+use granit_receivers::{EventReceiver, TryEventReceiver};
 use granit_replay::ReplayParser;
 use std::alloc::Global;
 
@@ -30,26 +29,32 @@ fn parser<'a>(alloc: Global, letters: &str, text: &'a str, anchor: usize) -> Rep
     ReplayParser::new(events(alloc, letters, text, anchor), 1)
 }
 
+/// No parsers yet, and comments come through or don't.
+fn replays<'a>(alloc: Global, emits_comments: bool) -> Layers<'a, ReplayParser<'a>> {
+    Layers::new(alloc, emits_comments)
+}
+
 /// Whether a parser was put on a stack, whose name is the text of its scalar.
-fn put<'a>(
+fn put<'a, S: FromReplay<'a>>(
     alloc: Global,
-    layers: &mut Layers<'a, ReplayParser<'a>>,
+    layers: &mut Layers<'a, S>,
     letters: &str,
     text: &'a str,
     anchor: usize,
 ) -> bool {
     let name = own(alloc, text);
-    let pushed = layers.push(parser(alloc, letters, text, anchor), name);
+    let parser = S::from_replay(parser(alloc, letters, text, anchor));
+    let pushed = layers.push(parser, name);
     pushed.ok().is_some()
 }
 
 /// The letter of what comes next.
-fn next<'a>(layers: &mut Layers<'a, ReplayParser<'a>>) -> char {
+fn next<'a, S: StackedParser<'a>>(layers: &mut Layers<'a, S>) -> char {
     given(layers.next_event()).0
 }
 
 /// The letters of the next ten events.
-fn letters<'a>(layers: &mut Layers<'a, ReplayParser<'a>>) -> [char; 10] {
+fn letters<'a, S: StackedParser<'a>>(layers: &mut Layers<'a, S>) -> [char; 10] {
     let mut letters = ['.'; 10];
     for i in 0..10 {
         letters[i] = next(layers);
@@ -59,23 +64,24 @@ fn letters<'a>(layers: &mut Layers<'a, ReplayParser<'a>>) -> [char; 10] {
 
 /// Whether one document was put on another one, the letters of what is given, with the first one behind the others, and
 /// the number of the next anchor behind the first one.
-fn told_of_nested<'a>(
+fn told_of_nested<'a, S: FromReplay<'a>>(
     alloc: Global,
-    layers: &mut Layers<'a, ReplayParser<'a>>,
+    layers: Layers<'a, S>,
 ) -> ([bool; 2], [char; 10], usize) {
-    let below = put(alloc, layers, ONE, "x", 3);
-    let above = put(alloc, layers, ONE, "y", 9);
-    let first = next(layers);
+    let mut layers = layers;
+    let below = put(alloc, &mut layers, ONE, "x", 3);
+    let above = put(alloc, &mut layers, ONE, "y", 9);
+    let first = next(&mut layers);
     let offset = layers.current_anchor_offset();
-    let mut letters = letters(layers);
+    let mut letters = letters(&mut layers);
     letters[9] = first;
+    drop(layers);
     ([below, above], letters, offset)
 }
 
 /// The same of a stack with comments or without.
 fn nested(alloc: Global, emits_comments: bool) -> ([bool; 2], [char; 10], usize) {
-    let mut layers = Layers::new(alloc, emits_comments);
-    told_of_nested(alloc, &mut layers)
+    told_of_nested(alloc, replays(alloc, emits_comments))
 }
 
 #[test]
@@ -86,31 +92,25 @@ fn a_document_on_another(rt: HostRuntime) {
     agree(&rt, nested(rt.alloc(), false), ([true; 2], wanted, 10));
 }
 
-/// Whether what is given is a refusal that prints these words.
-fn refuses(alloc: Global, next: Option<Result<(Event<'_>, Span), ScanError>>, words: &str) -> bool {
-    match &next {
-        Some(Err(error)) => prints(alloc, error, words),
-        _ => false,
-    }
-}
-
 /// Whether a second document is refused with these words, and the letters before and behind it.
-fn told_of_second<'a>(
+fn told_of_second<'a, S: FromReplay<'a>>(
     alloc: Global,
-    layers: &mut Layers<'a, ReplayParser<'a>>,
+    layers: Layers<'a, S>,
     words: &str,
 ) -> ([char; 3], bool) {
-    let _ = put(alloc, layers, ONE, "x", 0);
-    let _ = put(alloc, layers, TWO, "two", 0);
-    let (first, second) = (next(layers), next(layers));
-    let refused = refuses(alloc, layers.next_event(), words);
-    ([first, second, next(layers)], refused)
+    let mut layers = layers;
+    let _ = put(alloc, &mut layers, ONE, "x", 0);
+    let _ = put(alloc, &mut layers, TWO, "two", 0);
+    let (first, second) = (next(&mut layers), next(&mut layers));
+    let refused = refused(alloc, layers.next_event(), words);
+    let last = next(&mut layers);
+    drop(layers);
+    ([first, second, last], refused)
 }
 
 /// The same of a stack of its own.
 fn second_document(alloc: Global, words: &str) -> ([char; 3], bool) {
-    let mut layers = Layers::new(alloc, true);
-    told_of_second(alloc, &mut layers, words)
+    told_of_second(alloc, replays(alloc, true), words)
 }
 
 #[test]
@@ -124,64 +124,85 @@ fn a_second_document(rt: HostRuntime) {
     );
 }
 
-/// Four replays on one stack.
-type Replays<'a> = AnyKind<ReplayParser<'a>, ReplayParser<'a>, ReplayParser<'a>, ReplayParser<'a>>;
+/// Four kinds of parsers on one stack, which are all the same here.
+type FourKinds<'a, S> = Layers<'a, AnyKind<S, S, S, S>>;
 
 /// Whether a parser was put on a stack as the first of the four.
-fn put_first<'a>(alloc: Global, layers: &mut Layers<'a, Replays<'a>>, text: &'a str) -> bool {
+fn put_first<'a, S: FromReplay<'a>>(
+    alloc: Global,
+    layers: &mut FourKinds<'a, S>,
+    text: &'a str,
+) -> bool {
     let name = own(alloc, text);
-    let pushed = layers.push_first(parser(alloc, ONE, text, 0), name);
+    let parser = S::from_replay(parser(alloc, ONE, text, 0));
+    let pushed = layers.push_first(parser, name);
     pushed.ok().is_some()
 }
 
 /// As the second.
-fn put_second<'a>(alloc: Global, layers: &mut Layers<'a, Replays<'a>>, text: &'a str) -> bool {
+fn put_second<'a, S: FromReplay<'a>>(
+    alloc: Global,
+    layers: &mut FourKinds<'a, S>,
+    text: &'a str,
+) -> bool {
     let name = own(alloc, text);
-    let pushed = layers.push_second(parser(alloc, ONE, text, 0), name);
+    let parser = S::from_replay(parser(alloc, ONE, text, 0));
+    let pushed = layers.push_second(parser, name);
     pushed.ok().is_some()
 }
 
 /// As the third, with an event that comes first.
-fn put_third<'a>(alloc: Global, layers: &mut Layers<'a, Replays<'a>>, text: &'a str) -> bool {
+fn put_third<'a, S: FromReplay<'a>>(
+    alloc: Global,
+    layers: &mut FourKinds<'a, S>,
+    text: &'a str,
+) -> bool {
     let name = own(alloc, text);
-    let above = parser(alloc, ONE, text, 0);
+    let above = S::from_replay(parser(alloc, ONE, text, 0));
     let place = at(0);
     let pushed = layers.push_third_with(above, name, (event('_', "e", 0), place));
     pushed.ok().is_some()
 }
 
-/// The letter of what comes next.
-fn next_of_four<'a>(layers: &mut Layers<'a, Replays<'a>>) -> char {
-    given(layers.next_event()).0
+/// Whether something is seen to come next.
+fn looks<'a, S: StackedParser<'a>>(layers: &mut Layers<'a, S>) -> bool {
+    layers.peek().is_some()
 }
 
 /// The letters of the next five events.
-fn five<'a>(layers: &mut Layers<'a, Replays<'a>>) -> [char; 5] {
+fn five<'a, S: StackedParser<'a>>(layers: &mut Layers<'a, S>) -> [char; 5] {
     let mut letters = ['.'; 5];
     for i in 0..5 {
-        letters[i] = next_of_four(layers);
+        letters[i] = next(layers);
     }
     letters
 }
 
 /// What is given behind looks and pushes, and whether each parser was put on the stack.
-fn told_of_looks<'a>(
+fn told_of_looks<'a, S: FromReplay<'a>>(
     alloc: Global,
-    layers: &mut Layers<'a, Replays<'a>>,
+    layers: FourKinds<'a, S>,
 ) -> ([bool; 3], char, [char; 5]) {
-    let first = put_first(alloc, layers, "a");
-    let _ = layers.peek().is_some();
-    let second = put_second(alloc, layers, "b");
-    let looked = next_of_four(layers);
-    let _ = layers.peek().is_some();
-    let third = put_third(alloc, layers, "c");
-    ([first, second, third], looked, five(layers))
+    let mut layers = layers;
+    let first = put_first(alloc, &mut layers, "a");
+    let _ = looks(&mut layers);
+    let second = put_second(alloc, &mut layers, "b");
+    let looked = next(&mut layers);
+    let _ = looks(&mut layers);
+    let third = put_third(alloc, &mut layers, "c");
+    let last = five(&mut layers);
+    drop(layers);
+    ([first, second, third], looked, last)
+}
+
+/// Four replays on one stack, none of them yet.
+fn four_replays<'a>(alloc: Global) -> FourKinds<'a, ReplayParser<'a>> {
+    Layers::new(alloc, true)
 }
 
 /// An event that was looked at stays behind a push, unless another one is handed in with it.
 fn looked_at(alloc: Global) -> ([bool; 3], char, [char; 5]) {
-    let mut layers: Layers<'_, Replays<'_>> = Layers::new(alloc, true);
-    told_of_looks(alloc, &mut layers)
+    told_of_looks(alloc, four_replays(alloc))
 }
 
 #[test]
@@ -191,21 +212,22 @@ fn what_was_looked_at(rt: HostRuntime) {
 }
 
 /// Nothing lies there: the stream ends, and a later push changes nothing.
-fn told_of_nothing<'a>(
+fn told_of_nothing<'a, S: FromReplay<'a>>(
     alloc: Global,
-    layers: &mut Layers<'a, ReplayParser<'a>>,
+    layers: Layers<'a, S>,
 ) -> (bool, [char; 3]) {
-    let first = next(layers);
-    let late = put(alloc, layers, ONE, "late", 0);
-    let second = next(layers);
+    let mut layers = layers;
+    let first = next(&mut layers);
+    let late = put(alloc, &mut layers, ONE, "late", 0);
+    let second = next(&mut layers);
     let (third, _) = given(layers.next());
+    drop(layers);
     (late, [first, second, third])
 }
 
 /// The same of a stack of its own.
 fn nothing(alloc: Global) -> (bool, [char; 3]) {
-    let mut layers = Layers::new(alloc, true);
-    told_of_nothing(alloc, &mut layers)
+    told_of_nothing(alloc, replays(alloc, true))
 }
 
 #[test]
@@ -220,7 +242,8 @@ struct Counting {
 }
 
 impl<'input> EventReceiver<'input> for Counting {
-    fn on_event(&mut self, _ev: Event<'input>) {
+    fn on_event(&mut self, ev: Event<'input>) {
+        drop(ev);
         self.events = self.events.saturating_add(1);
     }
 }
@@ -233,22 +256,20 @@ impl<'input> TryEventReceiver<'input> for Strict {
     type Error = char;
 
     fn on_event(&mut self, ev: Event<'input>) -> Result<(), char> {
-        if ev.is_node() { Err('!') } else { Ok(()) }
+        let is_node = ev.is_node();
+        drop(ev);
+        if is_node { Err('!') } else { Ok(()) }
     }
 }
 
 /// What a receiver answers that wants no more; `.` is nothing, `p` a refusal of the parser.
-fn tried<'a>(layers: &mut Layers<'a, ReplayParser<'a>>) -> char {
-    match &layers.try_load(&mut Strict, true) {
-        Ok(()) => '.',
-        Err(TryLoadError::Scan(_)) => 'p',
-        Err(TryLoadError::Receiver(letter)) => *letter,
-    }
+fn tried<'a, S: StackedParser<'a>>(layers: &mut Layers<'a, S>) -> char {
+    given(layers.try_load(&mut Strict, true)).0
 }
 
 /// Whether `load` answers Ok, and how many events came by then.
-fn loaded<'a>(
-    layers: &mut Layers<'a, ReplayParser<'a>>,
+fn loaded<'a, S: StackedParser<'a>>(
+    layers: &mut Layers<'a, S>,
     counting: &mut Counting,
     multi: bool,
 ) -> (bool, usize) {
@@ -258,25 +279,24 @@ fn loaded<'a>(
 
 /// What a receiver that wants no more answers, and then how many events come up to the end of a document, up to the
 /// end, and behind it.
-fn told_of_receivers<'a>(
+fn told_of_receivers<'a, S: FromReplay<'a>>(
     alloc: Global,
-    layers: &mut Layers<'a, ReplayParser<'a>>,
+    layers: Layers<'a, S>,
 ) -> (char, [(bool, usize); 3]) {
-    let _ = put(alloc, layers, ONE, "x", 0);
-    let refused = tried(layers);
+    let mut layers = layers;
+    let _ = put(alloc, &mut layers, ONE, "x", 0);
+    let refused = tried(&mut layers);
     let mut counting = Counting { events: 0 };
-    let document = loaded(layers, &mut counting, false);
-    let all = loaded(layers, &mut counting, true);
-    (
-        refused,
-        [document, all, loaded(layers, &mut counting, true)],
-    )
+    let document = loaded(&mut layers, &mut counting, false);
+    let all = loaded(&mut layers, &mut counting, true);
+    let behind = loaded(&mut layers, &mut counting, true);
+    drop(layers);
+    (refused, [document, all, behind])
 }
 
 /// The same of a stack of its own.
 fn sent(alloc: Global) -> (char, [(bool, usize); 3]) {
-    let mut layers = Layers::new(alloc, true);
-    told_of_receivers(alloc, &mut layers)
+    told_of_receivers(alloc, replays(alloc, true))
 }
 
 #[test]

@@ -4,6 +4,7 @@ use granit_base::{
 };
 use granit_error::ScanError;
 use granit_event::Event;
+use granit_receivers::TryLoadError;
 use std::alloc::Global;
 
 /// Events, each with its place.
@@ -84,6 +85,17 @@ impl<'a> Shown for Option<Result<(Event<'a>, Span), ScanError>> {
     }
 }
 
+impl Shown for Result<(), TryLoadError<char>> {
+    /// `.` is Ok, `p` the parser's refusal, and else it is the receiver's.
+    fn told(&self) -> (char, usize) {
+        match self {
+            Ok(()) => ('.', 0),
+            Err(TryLoadError::Scan(_)) => ('p', 0),
+            Err(TryLoadError::Receiver(letter)) => (*letter, 0),
+        }
+    }
+}
+
 /// The same of what is let go here, which is cheap to prove in a generic function.
 pub(crate) fn given<T: Shown + Drop>(next: T) -> (char, usize) {
     next.told()
@@ -102,4 +114,24 @@ pub(crate) fn prints(alloc: Global, error: &ScanError, words: &str) -> bool {
         Ok(printed) => printed.as_str() == words,
         Err(_) => false,
     }
+}
+
+/// What may be a refusal.
+pub(crate) trait Refuses {
+    /// Whether it is one that prints these words.
+    fn refuses(&self, alloc: Global, words: &str) -> bool;
+}
+
+impl<'a> Refuses for Option<Result<(Event<'a>, Span), ScanError>> {
+    fn refuses(&self, alloc: Global, words: &str) -> bool {
+        match self {
+            Some(Err(error)) => prints(alloc, error, words),
+            _ => false,
+        }
+    }
+}
+
+/// The same of what is let go here.
+pub(crate) fn refused<T: Refuses + Drop>(alloc: Global, next: T, words: &str) -> bool {
+    next.refuses(alloc, words)
 }

@@ -4,7 +4,7 @@ use crate::letters::{Row, events_of, given, letter};
 use granit_base::Span;
 use granit_error::ScanError;
 use granit_event::Event;
-use granit_receivers::{SpannedEventReceiver, TryEventReceiver, TryLoadError};
+use granit_receivers::{SpannedEventReceiver, TryEventReceiver};
 use granit_replay::ReplayParser;
 use std::alloc::Global;
 
@@ -36,7 +36,8 @@ struct Counting {
 }
 
 impl<'input> SpannedEventReceiver<'input> for Counting {
-    fn on_event(&mut self, _ev: Event<'input>, span: Span) {
+    fn on_event(&mut self, ev: Event<'input>, span: Span) {
+        drop(ev);
         self.events = self.events.saturating_add(1);
         self.end = span.end.index();
     }
@@ -48,17 +49,22 @@ struct Strict {
     scalars: usize,
 }
 
+/// Whether an event is a scalar, and whether its text is `bad`.
+fn is_scalar_and_bad(event: &Event<'_>) -> (bool, bool) {
+    match event.scalar() {
+        None => (false, false),
+        Some((text, _)) => (true, text == "bad"),
+    }
+}
+
 impl<'input> TryEventReceiver<'input> for Strict {
     type Error = char;
 
     fn on_event(&mut self, ev: Event<'input>) -> Result<(), char> {
-        match ev.scalar() {
-            None => Ok(()),
-            Some((text, _)) => {
-                self.scalars = self.scalars.saturating_add(1);
-                if text == "bad" { Err('!') } else { Ok(()) }
-            }
-        }
+        let (is_scalar, is_bad) = is_scalar_and_bad(&ev);
+        drop(ev);
+        self.scalars = self.scalars.saturating_add(usize::from(is_scalar));
+        if is_bad { Err('!') } else { Ok(()) }
     }
 }
 
@@ -201,18 +207,9 @@ fn one_document_or_all(rt: HostRuntime) {
     agree(&rt, loads(rt.alloc()), wanted);
 }
 
-/// The letter of what `try_load` answers: `.` is Ok, `p` the parser's refusal, and else the receiver's.
-fn letter_of(loaded: &Result<(), TryLoadError<char>>) -> char {
-    match loaded {
-        Ok(()) => '.',
-        Err(TryLoadError::Scan(_)) => 'p',
-        Err(TryLoadError::Receiver(letter)) => *letter,
-    }
-}
-
 /// The letter of what `try_load` answers, and how many scalars were taken by then.
 fn tried(replay: &mut ReplayParser<'_>, strict: &mut Strict, multi: bool) -> (char, usize) {
-    let letter = letter_of(&replay.try_load(strict, multi));
+    let (letter, _) = given(replay.try_load(strict, multi));
     (letter, strict.scalars)
 }
 

@@ -1,4 +1,4 @@
-//! Lines one behind the other, in room that is used again.
+//! Lines one behind the other, in room that is already there.
 ghost use Rattle.std.specs.Prelude.{◌≡◌, ◌+◌, ◌≤◌, [], ◌++◌, length, take, IfOk, OnOk};
 ghost use Rattle.granit_lexemes.specs.Line as line;
 ghost use Rattle.granit_event.specs.Events.{event_kind, plain_event};
@@ -15,10 +15,10 @@ use std::marker::Model;
 /// What a usual line takes at most: an event of 129 bytes and a span of 127.
 const LINE: usize = 256;
 
-/// What room grows by, a page of memory twice.
-const MORE: usize = 8192;
+/// What room grows by.
+const MORE: usize = 1024;
 
-/// Lines of events, which are handed on and forgotten when there are enough of them.
+/// Lines of events, one behind the other.
 #[derive(Drop)]
 pub struct Page {
     /// The lines, and room behind them.
@@ -53,25 +53,11 @@ impl Page {
         }
     }
 
-    /// How many bytes the lines are.
-    pub fn len(&self) -> usize
-        ensures { result ≡ length self.now }
-    {
-        self.count
-    }
-
     /// The lines.
     pub fn as_slice(&self) -> &[u8]
         ensures value { result.now ≡ self.now }
     {
         &self.bytes[..self.count]
-    }
-
-    /// The lines go, and their room stays.
-    pub fn clear(&mut self)
-        ensures { self.new ≡ [] }
-    {
-        self.count = 0;
     }
 
     /// The line of an event.

@@ -1,3 +1,4 @@
 pub mod GatherLemmas
+mod LineLemmas
 mod LoadLemmas
 mod StreamLemmas

@@ -2,9 +2,11 @@
 #![tactic(auto)]
 
 mod fallible;
+mod lines;
 mod load;
 mod streams;
 
 pub use fallible::load_fallible;
+pub use lines::load_lines;
 pub use load::{Events, gather, load_str};
 pub use streams::load_chars;

@@ -5,3 +5,4 @@ pub mod Tree
 pub mod TreeCode
 pub mod TreeFalls
 pub mod TreeView
+pub mod WorkedTrees

@@ -29,13 +29,20 @@ abbrev mutual
   pairs_code NoPairs = gnum 0
   pairs_code (AfterPairs ps k v) = gcons (pairs_code ps) (gcons (tree_code k) (tree_code v))
 
-abbrev left : Gv → Gv
-left (gcons a b) = a
-left g = g
+abbrev left_half : Gv → Gv
+left_half (gcons a b) = a
+left_half g = g
 
-abbrev right : Gv → Gv
-right (gcons a b) = b
-right g = g
+abbrev right_half : Gv → Gv
+right_half (gcons a b) = b
+right_half g = g
+
+-- of three parts the second, and the third
+abbrev second : Gv → Gv
+second g = left_half (right_half g)
+
+abbrev third : Gv → Gv
+third g = right_half (right_half g)
 
 abbrev number : Gv → ℕ
 number (gnum n) = n
@@ -47,25 +54,25 @@ parts g = 0
 
 mutual
   pub tree_same : (t u : PlainTree) → tree_code t ≡ tree_code u → t ≡ u
-  tree_same (AliasOf n) (AliasOf m) e = ap AliasOf (text_coded.inj n m (ap right e))
-  tree_same (ScalarOf p a) (ScalarOf q b) e = λ i. ScalarOf (properties_coded.inj p q (ap (λ g. left (right g)) e) i)
-      (text_coded.inj a b (ap (λ g. right (right g)) e) i)
+  tree_same (AliasOf n) (AliasOf m) e = ap AliasOf (text_coded.inj n m (ap right_half e))
+  tree_same (ScalarOf p a) (ScalarOf q b) e = λ i. ScalarOf (properties_coded.inj p q (ap second e) i)
+      (text_coded.inj a b (ap third e) i)
   tree_same (SequenceOf p a) (SequenceOf q b) e = λ i. SequenceOf
-      (properties_coded.inj p q (ap (λ g. left (right g)) e) i) (trees_same a b (ap (λ g. right (right g)) e) i)
-  tree_same (MappingOf p a) (MappingOf q b) e = λ i. MappingOf (properties_coded.inj p q (ap (λ g. left (right g)) e) i)
-      (pairs_same a b (ap (λ g. right (right g)) e) i)
-  tree_same t u e = absurd (omega (arith, ap (λ g. number (left g)) e))
+      (properties_coded.inj p q (ap second e) i) (trees_same a b (ap third e) i)
+  tree_same (MappingOf p a) (MappingOf q b) e = λ i. MappingOf (properties_coded.inj p q (ap second e) i)
+      (pairs_same a b (ap third e) i)
+  tree_same t u e = absurd (omega (arith, ap (λ g. number (left_half g)) e))
 
   pub trees_same : (a b : PlainTrees) → trees_code a ≡ trees_code b → a ≡ b
   trees_same NoTrees NoTrees e = refl
-  trees_same (AfterTrees a t) (AfterTrees b u) e = λ i. AfterTrees (trees_same a b (ap left e) i)
-      (tree_same t u (ap right e) i)
+  trees_same (AfterTrees a t) (AfterTrees b u) e = λ i. AfterTrees (trees_same a b (ap left_half e) i)
+      (tree_same t u (ap right_half e) i)
   trees_same a b e = absurd (omega (arith, ap parts e))
 
   pub pairs_same : (a b : PlainPairs) → pairs_code a ≡ pairs_code b → a ≡ b
   pairs_same NoPairs NoPairs e = refl
-  pairs_same (AfterPairs a k v) (AfterPairs b j w) e = λ i. AfterPairs (pairs_same a b (ap left e) i)
-      (tree_same k j (ap (λ g. left (right g)) e) i) (tree_same v w (ap (λ g. right (right g)) e) i)
+  pairs_same (AfterPairs a k v) (AfterPairs b j w) e = λ i. AfterPairs (pairs_same a b (ap left_half e) i)
+      (tree_same k j (ap second e) i) (tree_same v w (ap third e) i)
   pairs_same a b e = absurd (omega (arith, ap parts e))
 
 abbrev pub trees_coded : Coded PlainTrees

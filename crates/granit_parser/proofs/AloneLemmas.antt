@@ -11,12 +11,12 @@ use Rattle.granit_parser.proofs.TextLemmas.{given_behind, leads_front, leads_mor
 use Rattle.granit_parser.specs.Alone.{BeginsAlone, CausedAlone, EndsAlone}
 use Rattle.granit_parser.specs.Parsing.{Next, GivesNext, LeadsTo}
 use Rattle.granit_shifted.proofs.ToldOnce.{told_alone}
-use Rattle.granit_shifted.specs.Alone.{TellsAlone, behind_first}
+use Rattle.granit_shifted.specs.Alone.{TellsMoved, behind_first}
 use Rattle.granit_shifted.specs.Shift.{Shift, moved_events, moved_fault_of}
 use Rattle.granit_steps.specs.Steps.{StepState, next_event}
 use Rattle.granit_steps.specs.Told.{gives_end, gives_fault, told_of}
 
-module _ (o : OptionsData) (x : List ℕ) (shift : Shift) (s : StepState) (tells : TellsAlone o x shift s) where
+module _ (o : OptionsData) (x : List ℕ) (shift : Shift) (s : StepState) (tells : TellsMoved o x shift s) where
   -- the events that lead from there to a state begin the text's stream, moved
   begins_alone : (es : List PlainEvent) (m : StepState) → LeadsTo o s es m → BeginsAlone x shift es
   begins_alone es m leads =

@@ -15,10 +15,11 @@ use Rattle.granit_parser.proofs.DropLemmas.{goes_same}
 use Rattle.granit_parser.proofs.GoesLemmas.{note_keeps, noted_steps}
 use Rattle.granit_parser.proofs.RecoverLemmas.{answered_steps}
 use Rattle.granit_parser.specs.Parsing.{Next, Parsing}
-use Rattle.granit_parser.specs.Recovering as spec
+use Rattle.granit_seen.specs.Seeing as seeing
 use Rattle.granit_parser.specs.Recovering.{AnswersIn, AsksAt, AsksBefore, AsksBy, AsksNow, ComesBy, Follows}
 use Rattle.granit_parser.specs.Recovering.{GoesWithCalls, MeetsNumber, SeenBy, SeenTells, asking_document, comes_ahead}
-use Rattle.granit_parser.specs.Recovering.{comes_bare, comes_seen, seen_comment, seen_in, seen_kind, seen_other}
+use Rattle.granit_seen.specs.Seeing.{seen_kind}
+use Rattle.granit_parser.specs.Recovering.{comes_bare, comes_seen, seen_comment, seen_in, seen_other}
 use Rattle.granit_reader.specs.Meets.{UnlessMemory}
 use Rattle.granit_recovery.specs.Asking.{LookTells}
 use Rattle.granit_restart.proofs.AheadLaws.{look_is_ahead}
@@ -46,14 +47,14 @@ other_room : (kind : EventKind) → is_note kind ≡ false → comment_count kin
 other_room (Comment text placement) e = absurd (cc)
 other_room kind e = refl
 
-untold : (kind : EventKind) → spec.seen_tells_document (seen_kind kind) ≡ false → is_note kind ≡ true
+untold : (kind : EventKind) → seeing.seen_tells_document (seen_kind kind) ≡ false → is_note kind ≡ true
 untold (Comment text placement) e = refl
 untold (DocumentStart explicit version) e = absurd (cc)
 untold DocumentEnd e = absurd (cc)
 untold StreamEnd e = absurd (cc)
 untold kind e = absurd (cc)
 
-note_untold : (kind : EventKind) → is_note kind ≡ true → spec.seen_tells_document (seen_kind kind) ≡ false
+note_untold : (kind : EventKind) → is_note kind ≡ true → seeing.seen_tells_document (seen_kind kind) ≡ false
 note_untold (Comment text placement) e = refl
 note_untold kind e = absurd (cc)
 
@@ -216,7 +217,7 @@ module _ {I : Type 0} (unread : I → Unread → Type 0) (new : Stepping I) (o :
     -- what was looked at and isn't a comment tells
     event_answers : (s : Stepping I) → s.scanner.options ≡ o → (p : Parsing I) → p.stepper ≡ s → (x : Event × Span)
         → p.peeked ≡ Some (Ok x) → (a : AsksBefore unread stops looked s (plain_event x) c)
-        → spec.seen_tells_document (seen_kind (plain_event x).kind) ≡ true
+        → seeing.seen_tells_document (seen_kind (plain_event x).kind) ≡ true
         → SeenTells o a.steps a.seen.steps (plain_event x).kind
         → AnswersIn unread stops looked (Ok true) p c
     event_answers s before p at x seen a told (seen_comment note takes tells) =
@@ -254,11 +255,11 @@ unless_map (Err e) a f = λ other. f (a other)
 module _ {I : Type 0} (unread : I → Unread → Type 0) (stops : Stops) (looked : Bool) (c : Calls) where
   -- an event that was looked at tells
   pub follows_told : (p : Parsing I) → AsksBy unread stops looked p.peeked p.stepper c
-      → spec.seen_tells_document (seen_in p.peeked) ≡ true → Follows unread stops looked (Ok true) p c
+      → seeing.seen_tells_document (seen_in p.peeked) ≡ true → Follows unread stops looked (Ok true) p c
   follows_told p asks = by p.peeked refl asks
     where
       by : (w : Next) → p.peeked ≡ w → AsksBy unread stops looked w p.stepper c
-          → spec.seen_tells_document (seen_in w) ≡ true
+          → seeing.seen_tells_document (seen_in w) ≡ true
           → Follows unread stops looked (Ok true) p c
       by None is a told = absurd (cc)
       by (Some (Ok x)) is a told =
@@ -270,7 +271,7 @@ module _ {I : Type 0} (unread : I → Unread → Type 0) (stops : Stops) (looked
   pub follows_looked : (p q : Parsing I) (r : Result Bool Refused)
       → q.stepper.scanner.options ≡ p.stepper.scanner.options
       → q.stepper.first ≡ p.stepper.first → q.peeked ≡ p.peeked → AsksBy unread stops looked p.peeked p.stepper c
-      → spec.seen_tells_document (seen_in p.peeked) ≡ false
+      → seeing.seen_tells_document (seen_in p.peeked) ≡ false
       → ((m : StepState) → StandsAhead unread p.stepper m → p.stepper.first ≡ None
       → Turned p.stepper.scanner.options m → UnlessMemory r (Looks unread p.stepper.scanner.options
       p.stepper.scanner.options.max_buffered_comment_events r
@@ -279,7 +280,7 @@ module _ {I : Type 0} (unread : I → Unread → Type 0) (stops : Stops) (looked
   follows_looked p q r options first peeked asks untold_by looks = by p.peeked peeked asks untold_by
     where
       by : (w : Next) → q.peeked ≡ w → AsksBy unread stops looked w p.stepper c
-          → spec.seen_tells_document (seen_in w) ≡ false
+          → seeing.seen_tells_document (seen_in w) ≡ false
           → UnlessMemory r (Follows unread stops looked r q c)
       by None is a told =
           unless_map r (looks a.goes.steps a.goes.stands (a.goes.told refl) a.turned)

@@ -17,13 +17,14 @@ use Rattle.granit_parser.proofs.RecoverLemmas.{asks_dropped, asks_fault, asks_he
 use Rattle.granit_parser.proofs.RecoverLemmas.{look_other, seen_call, skipped_here, skipped_on, skipped_to_fault}
 use Rattle.granit_parser.proofs.RecoverLemmas.{starts_between, starts_fault, starts_over, starts_steps}
 use Rattle.granit_parser.specs.Parsing.{EndsBehind, Next, Parsing}
-use Rattle.granit_parser.specs.Recovering as spec
+use Rattle.granit_seen.specs.Seeing as seeing
 use Rattle.granit_parser.specs.Recovering.{AnswersBy, AsksAt, AsksBefore, AsksBy, AsksNow, ComesBy, Failed}
 use Rattle.granit_parser.specs.Recovering.{GoesWithCalls, MeetsNumber, ParserIn, SeenBy, SeenNext, SeenTells}
 use Rattle.granit_parser.specs.Recovering.{SkipsToAsk, SeenOrFails, asking_document, comes_ahead, comes_anew}
 use Rattle.granit_parser.specs.Recovering.{comes_dropping, comes_here, comes_seen, StopsBy, StopsDropping, StopsIn}
-use Rattle.granit_parser.specs.Recovering.{comes_behind, comes_ended, seen_comment, seen_in, seen_kind, seen_other}
-use Rattle.granit_parser.specs.declared.recovery.Seen.TheVariants as seens
+use Rattle.granit_seen.specs.Seeing.{seen_kind}
+use Rattle.granit_parser.specs.Recovering.{comes_behind, comes_ended, seen_comment, seen_in, seen_other}
+use Rattle.granit_seen.specs.declared.seen.Seen.TheVariants as seens
 use Rattle.granit_recovery.specs.Asking.{LookTells}
 use Rattle.granit_recovery.specs.Streams.{ReachedByCalls, reached_call, reached_recovery}
 use Rattle.granit_restart.proofs.AheadLaws.{skip_alike}
@@ -238,25 +239,25 @@ module _ {I : Type 0} (unread : I → Unread → Type 0) where
 
 -- ---- what was looked at
 
-begins_not : (kind : EventKind) → spec.seen_starts_document (seen_kind kind) ≡ false → begins kind ≡ false
+begins_not : (kind : EventKind) → seeing.seen_starts_document (seen_kind kind) ≡ false → begins kind ≡ false
 begins_not (DocumentStart explicit version) e = absurd (cc)
 begins_not kind e = refl
 
-begins_is : (kind : EventKind) → spec.seen_starts_document (seen_kind kind) ≡ true → begins kind ≡ true
+begins_is : (kind : EventKind) → seeing.seen_starts_document (seen_kind kind) ≡ true → begins kind ≡ true
 begins_is (DocumentStart explicit version) e = refl
 begins_is DocumentEnd e = absurd (cc)
 begins_is StreamEnd e = absurd (cc)
 begins_is (Comment text placement) e = absurd (cc)
 begins_is kind e = absurd (cc)
 
-pub ends_is : (kind : EventKind) → spec.seen_ends_document (seen_kind kind) ≡ true → kind ≡ DocumentEnd
+pub ends_is : (kind : EventKind) → seeing.seen_ends_document (seen_kind kind) ≡ true → kind ≡ DocumentEnd
 ends_is DocumentEnd e = refl
 ends_is (DocumentStart explicit version) e = absurd (cc)
 ends_is StreamEnd e = absurd (cc)
 ends_is (Comment text placement) e = absurd (cc)
 ends_is kind e = absurd (cc)
 
-pub ends_not : (kind : EventKind) → spec.seen_ends_document (seen_kind kind) ≡ false
+pub ends_not : (kind : EventKind) → seeing.seen_ends_document (seen_kind kind) ≡ false
     → (seen_kind kind ≡ seens.StreamEnd → ⊥)
     → ends kind ≡ false
 ends_not DocumentEnd e other = absurd (cc)
@@ -266,10 +267,10 @@ ends_not kind e other = refl
 noted_end : (kind : EventKind) (c : Calls) → kind ≡ DocumentEnd → (noted kind c).between ≡ true
 noted_end kind c e = ap (λ k. (noted k c).between) e
 
-dropped_by : (b : Bool) (kind : EventKind) → (b && not (spec.seen_starts_document (seen_kind kind))) ≡ false
+dropped_by : (b : Bool) (kind : EventKind) → (b && not (seeing.seen_starts_document (seen_kind kind))) ≡ false
     → (b ≡ false) ⊎ (begins kind ≡ true)
 dropped_by false kind e = inl refl
-dropped_by true kind e = inr (begins_is kind (started (spec.seen_starts_document (seen_kind kind)) e))
+dropped_by true kind e = inr (begins_is kind (started (seeing.seen_starts_document (seen_kind kind)) e))
   where
     started : (b : Bool) → not b ≡ false → b ≡ true
     started true e = refl
@@ -396,13 +397,13 @@ module _ {I : Type 0} (unread : I → Unread → Type 0) (p : Parsing I) (c : Ca
 
   -- what was looked at stays
   pub all_stays : (cursor : Reading I) → SeenBy unread p.peeked p.stepper c → p.between ≡ true → GoByTurns o
-      → TakesRoom o → spec.seen_starts_document (seen_in p.peeked) ≡ false → (seen_in p.peeked ≡ seens.StreamEnd → ⊥)
+      → TakesRoom o → seeing.seen_starts_document (seen_in p.peeked) ≡ false → (seen_in p.peeked ≡ seens.StreamEnd → ⊥)
       → (stops : Stops) × StopsIn unread cursor p.stepper.scanner.options stops c
       × AsksBy unread stops (is_some p.peeked) p.peeked p.stepper c
   all_stays cursor seen between by_turns room other going =
       (fitting o (skip_by_turns o c.steps), fitting_in cursor, by p.peeked seen other going)
     where
-      by : (r : Next) → SeenBy unread r p.stepper c → spec.seen_starts_document (seen_in r) ≡ false
+      by : (r : Next) → SeenBy unread r p.stepper c → seeing.seen_starts_document (seen_in r) ≡ false
           → (seen_in r ≡ seens.StreamEnd → ⊥)
           → AsksBy unread (fitting o (skip_by_turns o c.steps)) (is_some r) r p.stepper c
       by None g other going = none_stays between g by_turns
@@ -413,8 +414,8 @@ module _ {I : Type 0} (unread : I → Unread → Type 0) (p : Parsing I) (c : Ca
   -- ---- the end of a document that was looked at goes
 
   pub end_goes : (cursor : Reading I) → SeenBy unread p.peeked p.stepper c → GoByTurns o
-      → (p.between && not (spec.seen_starts_document (seen_in p.peeked))) ≡ false
-      → spec.seen_ends_document (seen_in p.peeked) ≡ true
+      → (p.between && not (seeing.seen_starts_document (seen_in p.peeked))) ≡ false
+      → seeing.seen_ends_document (seen_in p.peeked) ≡ true
       → AsksFrom unread cursor (is_some p.peeked) p.stepper c
   unfolding goes_same
   end_goes cursor seen by_turns not_here ended =
@@ -446,12 +447,14 @@ module _ {I : Type 0} (unread : I → Unread → Type 0) (p : Parsing I) (c : Ca
           }
 
       other_end : (b : Bool) (kind : EventKind) → kind ≡ DocumentEnd
-          → (b && not (spec.seen_starts_document (seen_kind kind))) ≡ false
+          → (b && not (seeing.seen_starts_document (seen_kind kind))) ≡ false
           → b ≡ false
-      other_end b kind end e = within_by b (ap (λ k. b && not (spec.seen_starts_document (seen_kind k))) (sym end) ∙ e)
+      other_end b kind end e =
+          within_by b (ap (λ k. b && not (seeing.seen_starts_document (seen_kind k))) (sym end) ∙ e)
 
-      by : (r : Next) → SeenBy unread r p.stepper c → (p.between && not (spec.seen_starts_document (seen_in r))) ≡ false
-          → spec.seen_ends_document (seen_in r) ≡ true
+      by : (r : Next) → SeenBy unread r p.stepper c
+          → (p.between && not (seeing.seen_starts_document (seen_in r))) ≡ false
+          → seeing.seen_ends_document (seen_in r) ≡ true
           → AsksNow unread (fitting o (skip_by_turns o c.steps)) (is_some r) p.stepper c
       by None g not_here ended = absurd (cc)
       by (Some (Ok x)) n not_here ended =
@@ -503,8 +506,8 @@ module _ {I : Type 0} (unread : I → Unread → Type 0) (p : Parsing I) (c : Ca
         skips first
 
     pub document_goes : SeenBy unread p.peeked p.stepper c
-        → (p.between && not (spec.seen_starts_document (seen_in p.peeked))) ≡ false
-        → spec.seen_ends_document (seen_in p.peeked) ≡ false
+        → (p.between && not (seeing.seen_starts_document (seen_in p.peeked))) ≡ false
+        → seeing.seen_ends_document (seen_in p.peeked) ≡ false
         → (seen_in p.peeked ≡ seens.StreamEnd → ⊥)
         → ((m : StepState) → StandsAhead unread p.stepper m → Turned o m → SkipsDocument unread o new m)
         → AsksFrom unread cursor (is_some p.peeked) new c
@@ -512,8 +515,8 @@ module _ {I : Type 0} (unread : I → Unread → Type 0) (p : Parsing I) (c : Ca
     document_goes seen not_here other going skips = by p.peeked seen not_here other going
       where
         by : (r : Next) → SeenBy unread r p.stepper c
-            → (p.between && not (spec.seen_starts_document (seen_in r))) ≡ false
-            → spec.seen_ends_document (seen_in r) ≡ false → (seen_in r ≡ seens.StreamEnd → ⊥)
+            → (p.between && not (seeing.seen_starts_document (seen_in r))) ≡ false
+            → seeing.seen_ends_document (seen_in r) ≡ false → (seen_in r ≡ seens.StreamEnd → ⊥)
             → AsksFrom unread cursor (is_some r) new c
             ⊎ MeetsNumber new.renumbered new.scanner.options c.steps
         by None g not_here other going =

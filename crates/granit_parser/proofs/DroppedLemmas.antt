@@ -9,9 +9,9 @@ use Rattle.granit_error.specs.Refused.{Refused}
 use Rattle.granit_parser.proofs.DropLemmas.{AsksFrom, GoByTurns, TakesRoom, TellsHere, TellsLooked, all_stays, at_fault}
 use Rattle.granit_parser.proofs.DropLemmas.{document_goes, end_goes, fault_asks, going, on_ok}
 use Rattle.granit_parser.specs.Parsing.{Next, Parsing}
-use Rattle.granit_parser.specs.Recovering as spec
+use Rattle.granit_seen.specs.Seeing as seeing
 use Rattle.granit_parser.specs.Recovering.{AsksBy, MeetsNumber, ParserIn, SkipsToAsk, seen_in}
-use Rattle.granit_parser.specs.declared.recovery.Seen.TheVariants as seens
+use Rattle.granit_seen.specs.declared.seen.Seen.TheVariants as seens
 use Rattle.granit_recovery.specs.Streams.{ReachedByCalls}
 use Rattle.granit_restart.specs.Calls.{Calls}
 use Rattle.granit_restart.specs.Turned.{Turned}
@@ -61,8 +61,8 @@ module _ {I : Type 0} (unread : I → Unread → Type 0) (p : Parsing I) (c : Ca
         reached tells by_turns q.stepper kept p.stepper.scanner.cursor f.fault f.is x e))
 
     pub document_dropped : TellsLooked p.stepper.scanner.options → p.stepper.failed ≡ false
-        → (p.between && not (spec.seen_starts_document (seen_in p.peeked))) ≡ false
-        → spec.seen_ends_document (seen_in p.peeked) ≡ false
+        → (p.between && not (seeing.seen_starts_document (seen_in p.peeked))) ≡ false
+        → seeing.seen_ends_document (seen_in p.peeked) ≡ false
         → (seen_in p.peeked ≡ seens.StreamEnd → ⊥)
         → ((m : StepState) → StandsAhead unread mid m → Turned mid.scanner.options m
         → OnOk r (SkipsDocument unread mid.scanner.options q.stepper m))
@@ -82,8 +82,8 @@ module _ {I : Type 0} (unread : I → Unread → Type 0) (p : Parsing I) (c : Ca
             p.stepper.scanner.cursor q.stepper kept first by_turns looks g.seen not_here other end skips)
 
   pub end_dropped : (q : Parsing I) → q ≡ record p { peeked = None } → p.stepper.failed ≡ false
-      → (p.between && not (spec.seen_starts_document (seen_in p.peeked))) ≡ false
-      → spec.seen_ends_document (seen_in p.peeked) ≡ true
+      → (p.between && not (seeing.seen_starts_document (seen_in p.peeked))) ≡ false
+      → seeing.seen_ends_document (seen_in p.peeked) ≡ true
       → SkipsToAsk unread p.stepper.scanner.cursor (is_some p.peeked) q c
   end_dropped q is failed not_here end =
       let g = going unread p c at over refusal failed in
@@ -92,12 +92,12 @@ module _ {I : Type 0} (unread : I → Unread → Type 0) (p : Parsing I) (c : Ca
       p.stepper.scanner.cursor g.seen by_turns not_here end))
 
   pub none_dropped : TakesRoom p.stepper.scanner.options → p.stepper.failed ≡ false
-      → (p.between && not (spec.seen_starts_document (seen_in p.peeked))) ≡ true
+      → (p.between && not (seeing.seen_starts_document (seen_in p.peeked))) ≡ true
       → (seen_in p.peeked ≡ seens.StreamEnd → ⊥)
       → SkipsToAsk unread p.stepper.scanner.cursor (is_some p.peeked) p c
   none_dropped room failed here end =
       let g = going unread p c at over refusal failed in
-      let both = and_parts p.between (not (spec.seen_starts_document (seen_in p.peeked))) here in
+      let both = and_parts p.between (not (seeing.seen_starts_document (seen_in p.peeked))) here in
       inl (all_stays unread p c at over refusal g.fault p.stepper.scanner.options refl reached tells
       p.stepper.scanner.cursor g.seen both.0 by_turns room
-      (not_true (spec.seen_starts_document (seen_in p.peeked)) both.1) end)
+      (not_true (seeing.seen_starts_document (seen_in p.peeked)) both.1) end)

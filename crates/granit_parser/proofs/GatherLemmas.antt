@@ -1,9 +1,9 @@
 -- All events that a parser still gives, as one list.
 use Rattle.std.proofs.Common.{◌≡◌, ◌<◌, ◌-◌, ◌^◌, ℕ, Bool, true, false, ◌==◌, ◌||◌, not, List, [], ◌∷◌, ◌++◌, length}
-use Rattle.std.proofs.Common.{Option, Some, None, Result, Ok, Err, refl, sym, ap, subst, ◌∙◌, ◌⊎◌, inl, inr}
+use Rattle.std.proofs.Common.{◌≤◌, Option, Some, None, Result, Ok, Err, refl, sym, ap, subst, ◌∙◌, ◌⊎◌, inl, inr, arith}
 use Rattle.std.specs.Prelude.{IfErr, IfOk, IfSome}
-use Rattle.std.proofs.lemmas.List.{append-nil}
-use Rattle.granit_base.specs.Place.{Unread}
+use Rattle.std.proofs.lemmas.List.{append-nil, length-append}
+use Rattle.granit_base.specs.Place.{Mark, Unread}
 use Rattle.granit_error.specs.OptionsData.{OptionsData}
 use Rattle.granit_error.specs.Refused.{Refused}
 use Rattle.granit_base.specs.declared.place.Span.{Span}
@@ -13,7 +13,8 @@ use Rattle.granit_input.specs.Origin.{Goes, Origin}
 use Rattle.granit_lexemes.specs.Outcome.{Fails}
 use Rattle.granit_lexemes.specs.PlainEvent.{PlainEvent}
 use Rattle.granit_machine.specs.Frames.{ParserState}
-use Rattle.granit_parser.specs.Gathering.{Gathered, LeadsOut, RefusesLate, WaitsGathered}
+use Rattle.granit_parser.specs.Gathering.{Gathered, GathersSome, LeadsOut, RefusesLate, WaitsGathered}
+use Rattle.granit_parser.specs.Gathering.{WaitsOrRefuses}
 use Rattle.granit_parser.specs.Parsing.{EndsBehind, EndsWith, LeadsTo, Next, Parsing, StandsAt, StandsBefore}
 use Rattle.granit_parser.specs.Parsing.{none_given, first_given}
 use Rattle.granit_parser.specs.Receiving.{RefusalIn}
@@ -25,13 +26,13 @@ use Rattle.granit_stepper.proofs.StateLemmas.{next_fails, waiting}
 use Rattle.granit_stepper.proofs.TurnLemmas.{none_given as none_waits, some_given as some_waits}
 use Rattle.granit_stepper.specs.Gathering.{GathersBehind}
 use Rattle.granit_stepper.specs.Numbers.{RefusesNumber}
-use Rattle.granit_stepper.specs.Stepping.{Stepping, StandsIn}
+use Rattle.granit_stepper.specs.Stepping.{Stepping, StandsIn, first_events}
 use Rattle.granit_steps.specs.Steps.{StepState, next_event, settle}
 
 -- ---- in the machine
 
 -- events are given, and others behind them
-leads_behind : (o : OptionsData) {m n after : StepState} {es fs : List PlainEvent} → LeadsTo o m es n
+pub leads_behind : (o : OptionsData) {m n after : StepState} {es fs : List PlainEvent} → LeadsTo o m es n
     → LeadsTo o n fs after → LeadsTo o m (es ++ fs) after
 leads_behind o none_given more = more
 leads_behind o (first_given is leads) more = first_given is (leads_behind o leads more)
@@ -64,6 +65,11 @@ pub none_numbered : {I : Type 0} (unread : I → Unread → Type 0) (m : StepSta
 none_numbered unread m None old new seen at = few_numbered unread old m at
 none_numbered unread m (Some x) old new seen at = absurd (let clash : None ≡ Some x = seen.0 in cc)
 
+-- events behind others
+longer : (xs ys zs : List PlainEvent) (e : PlainEvent) (es : List PlainEvent) → ys ≡ e ∷ es → xs ++ ys ≡ zs
+    → length xs < length zs
+longer xs ys zs e es is all = rw (sym all, is, length-append xs (e ∷ es)) (omega arith)
+
 module _ {I : Type 0} (unread : I → Unread → Type 0) (o : OptionsData) (m : StepState) where
   -- one event was given
   pub gathered_first : (p : Parsing I) (e : PlainEvent) → p.peeked ≡ None → (n : StepState) → StandsAt unread p n
@@ -87,28 +93,73 @@ module _ {I : Type 0} (unread : I → Unread → Type 0) (o : OptionsData) (m : 
         stands = subst (λ (es : List PlainEvent). StandsIn unread t (with_pending es n)) is there;
       }
 
+  -- all that waits in a known state
+  pub waits_now : (s : Stepping I) → s.first ≡ None → StandsIn unread s m → WaitsGathered unread o m s
+  waits_now s told at =
+      let is : m.pending ≡ s.parser.given = waiting unread s m at told in
+      record {
+        told = told;
+        at = m;
+        leads = waits_all o m s.parser.given is;
+        stands = subst (λ (es : List PlainEvent). StandsIn unread s (with_pending es m)) is at;
+      }
+
+  -- what waits is taken
+  emptied : (s : Stepping I) (n : StepState) (es : List PlainEvent) → s.first ≡ None
+      → StandsIn unread s (with_pending es n)
+      → StandsIn unread (record s { parser = record (s.parser) { given = [] } }) (with_pending [] n)
+  emptied s n es told at = record {
+    going = at.going;
+    reading = at.reading;
+    parser = at.parser;
+    pending = ap (λ (x : Option Mark). first_events x ++ []) (sym told);
+    numbers = at.numbers;
+    none_ahead = at.none_ahead;
+  }
+
+  -- and is what comes next
+  pub some_gathered : (origin : I → Origin) (p q : Parsing I) (count : ℕ) (more : Bool) (es : List PlainEvent)
+      → 0 < count → es ≡ p.stepper.parser.given
+      → q.stepper ≡ record (p.stepper) { parser = record (p.stepper.parser) { given = [] } } → q.peeked ≡ None
+      → WaitsOrRefuses unread origin o m count (Ok more) p → GathersSome unread origin o m (Ok more) es q
+  some_gathered origin p q count true es some is left unseen both =
+      let w = both.1 in
+      let led : (n : StepState) × LeadsTo o m es n × StandsAt unread q n = (
+        with_pending [] w.at,
+        subst (λ (gs : List PlainEvent). LeadsTo o m gs (with_pending [] w.at)) (sym is) w.leads,
+        subst (λ (r : Next). StandsBefore unread r q.stepper (with_pending [] w.at)) (sym unseen)
+            (subst (λ (s : Stepping I). StandsIn unread s (with_pending [] w.at)) (sym left)
+            (emptied p.stepper w.at p.stepper.parser.given w.told w.stands)),
+      ) in
+      (rw is (omega (arith, some, both.0)), led)
+  some_gathered origin p q count false es some is left unseen all =
+      subst (λ (gs : List PlainEvent). LeadsOut o m gs) (sym is) all
+
   more_by : (now t : Stepping I) (w : WaitsGathered unread o m now) (after : StepState) (more : List PlainEvent)
       → settle o (with_pending [] w.at) ≡ Ok ([], after) → t.first ≡ None
       → StandsIn unread t (with_pending (now.parser.given ++ after.pending) after) → after.pending ≡ more
-      → true ≡ not (length more == 0) → WaitsGathered unread o m t
+      → true ≡ not (length more == 0) → (length now.parser.given < length t.parser.given) × WaitsGathered unread o m t
   more_by now t w after [] settled told there is some =
       absurd (let clash : true ≡ false = some_waits [] (sym some) in cc)
   more_by now t w after (e ∷ es) settled told there is some =
-      let all = waiting unread t (with_pending (now.parser.given ++ after.pending) after) there told in
-      record {
-        told = told;
-        at = after;
-        leads = subst (λ (gs : List PlainEvent). LeadsTo o m gs (with_pending [] after))
-            (ap (λ (gs : List PlainEvent). now.parser.given ++ gs) (sym is) ∙ all)
-            (leads_behind o w.leads (settled_all o (with_pending [] w.at) after e es settled is));
-        stands = subst (λ (gs : List PlainEvent). StandsIn unread t (with_pending gs after)) all there;
-      }
+      let all = waiting unread t (with_pending (now.parser.given ++ after.pending) after) there told in (
+        longer now.parser.given after.pending t.parser.given e es is all,
+        record {
+          told = told;
+          at = after;
+          leads = subst (λ (gs : List PlainEvent). LeadsTo o m gs (with_pending [] after))
+              (ap (λ (gs : List PlainEvent). now.parser.given ++ gs) (sym is) ∙ all)
+              (leads_behind o w.leads (settled_all o (with_pending [] w.at) after e es settled is));
+          stands = subst (λ (gs : List PlainEvent). StandsIn unread t (with_pending gs after)) all there;
+        },
+      )
 
-  -- more was gathered
+  -- more was gathered, one more at least
   pub gathers_more : (now after : Stepping I) (Refuses : StepState → Refused → Type 0) → after.first ≡ now.first
       → ((n : StepState) → StandsIn unread now n → now.first ≡ None
       → GathersBehind (Ok true) (StandsIn unread after) o n (Refuses n))
-      → WaitsGathered unread o m now → WaitsGathered unread o m after
+      → WaitsGathered unread o m now
+      → (length now.parser.given < length after.parser.given) × WaitsGathered unread o m after
   gathers_more now after Refuses first gives w =
       let g = gives (with_pending now.parser.given w.at) w.stands w.told in
       more_by now after w g.0 g.0.pending g.1 (first ∙ w.told) g.2 refl g.3

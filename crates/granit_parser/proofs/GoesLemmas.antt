@@ -26,8 +26,15 @@ use Rattle.granit_restart.specs.Skipping.{with_pending}
 use Rattle.granit_restart.specs.Turned.{Turned}
 use Rattle.granit_stepper.specs.Numbers.{GivesOr, RefusesNumber, TurnsTo, no_turn, one_turn}
 use Rattle.granit_stepper.specs.Refusals.{FailsIn, GivesAhead, HoldsRefusal, RefusedIn, RefusesLater, StandsAhead}
-use Rattle.granit_stepper.specs.Stepping.{StandsIn, Stepping}
+use Rattle.granit_stepper.specs.Stepping.{StandsIn, Stepping, answer_in}
 use Rattle.granit_steps.specs.Steps.{StepState, next_event, step_size, step_turn}
+
+-- ---- what stands in a place for the next event
+
+pub viewed : {X : Type 0} (r : Option (Result X Refused)) → r ≡ next_view (answer_in r)
+viewed None = refl
+viewed (Some (Ok x)) = refl
+viewed (Some (Err e)) = refl
 
 -- ---- what calls note
 

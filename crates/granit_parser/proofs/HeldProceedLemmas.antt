@@ -20,10 +20,12 @@ use Rattle.granit_parser.specs.Holding.{held_room, keeping_tags, stays_seen}
 use Rattle.granit_parser.specs.Parsing.{Next, Parsing}
 use Rattle.granit_parser.specs.Recovering.{AsksBy, EndsHeldBy, EndsHeld, Follows, GaveUp, IsOpen, LookShowsHeld}
 use Rattle.granit_parser.specs.Recovering.{ParserIn, Proceeds, ProceedsHeld, ProceedsHeldBy, ProceedsHeldNext}
-use Rattle.granit_parser.specs.Recovering.{ProceedsHeldShown, SeenBy, SkipsWaiting, failed_in, seen_in, seen_kind}
-use Rattle.granit_parser.specs.Recovering.{seen_tells_document, stays_by}
+use Rattle.granit_seen.specs.Seeing.{seen_kind}
+use Rattle.granit_parser.specs.Recovering.{ProceedsHeldShown, SeenBy, SkipsWaiting, failed_in, seen_in}
+use Rattle.granit_seen.specs.Seeing.{seen_tells_document}
+use Rattle.granit_parser.specs.Recovering.{stays_by}
 use Rattle.granit_parser.specs.Sources.{TellsSource}
-use Rattle.granit_parser.specs.declared.recovery.Seen.TheVariants as seens
+use Rattle.granit_seen.specs.declared.seen.Seen.TheVariants as seens
 use Rattle.granit_reader.specs.Meets.{UnlessMemory}
 use Rattle.granit_recovery.specs.Streams.{ReachedByCalls}
 use Rattle.granit_restart.specs.Calls.{Calls}

@@ -17,8 +17,9 @@ use Rattle.granit_parser.specs.Holding.{FailsThere, FaultLacksNumber, MetFault, 
 use Rattle.granit_parser.specs.Holding.{held_room, keeping_tags, looked_comment}
 use Rattle.granit_parser.specs.Parsing.{Next, Parsing}
 use Rattle.granit_parser.specs.Recovering.{AsksBy, IsOpen, SkipsToAsk, SkipsWaiting, failed_in, seen_in}
-use Rattle.granit_parser.specs.Recovering.{seen_ends_document, seen_kind, seen_starts_document, stays_by}
-use Rattle.granit_parser.specs.declared.recovery.Seen.TheVariants as seens
+use Rattle.granit_seen.specs.Seeing.{seen_ends_document, seen_kind, seen_starts_document}
+use Rattle.granit_parser.specs.Recovering.{stays_by}
+use Rattle.granit_seen.specs.declared.seen.Seen.TheVariants as seens
 use Rattle.granit_recovery.specs.Asking.{LookTells}
 use Rattle.granit_recovery.specs.Streams.{ReachedByCalls, reached_call, reached_counting, reached_keeping}
 use Rattle.granit_recovery.specs.Streams.{reached_recovery}

@@ -12,20 +12,20 @@ use Rattle.granit_parser.proofs.DropLemmas.{seen_going}
 use Rattle.granit_parser.proofs.InLemmas.{goes_in}
 use Rattle.granit_parser.proofs.RecoverLemmas.{any_stops}
 use Rattle.granit_parser.specs.Parsing.{Parsing}
-use Rattle.granit_parser.specs.Recovering as spec
+use Rattle.granit_seen.specs.Seeing as seeing
 use Rattle.granit_parser.specs.Recovering.{AnswersBy, AnswersIn, AsksBy, Ends, Follows, GaveUp, IsOpen, MeetsNumber}
 use Rattle.granit_parser.specs.Recovering.{ParserIn, Proceeds, RecoveryLeaves, SeenBy, SkipsToAsk, SeenOrFails, StopsIn}
 use Rattle.granit_parser.specs.Recovering.{seen_in}
 use Rattle.granit_parser.specs.Sources.{TellsSource}
-use Rattle.granit_parser.specs.declared.recovery.Seen.{Seen}
-use Rattle.granit_parser.specs.declared.recovery.Seen.TheVariants as seens
+use Rattle.granit_seen.specs.declared.seen.Seen.{Seen}
+use Rattle.granit_seen.specs.declared.seen.Seen.TheVariants as seens
 use Rattle.granit_reader.specs.Meets.{UnlessMemory}
 use Rattle.granit_receivers.specs.Kept.{GivesAgain, IsKept}
 use Rattle.granit_restart.specs.Calls.{Calls}
 use Rattle.granit_restart.specs.Recovery.{recover, recover_with, recovery_answer, resumed}
 use Rattle.granit_restart.specs.Skipping.{Stops}
 
-pub is_end : (s : Seen) → spec.ends_stream s ≡ true → s ≡ seens.StreamEnd
+pub is_end : (s : Seen) → seeing.ends_stream s ≡ true → s ≡ seens.StreamEnd
 is_end seens.StreamEnd e = refl
 is_end seens.Nothing e = absurd (cc)
 is_end seens.Comment e = absurd (cc)
@@ -33,8 +33,8 @@ is_end seens.DocumentStart e = absurd (cc)
 is_end seens.DocumentEnd e = absurd (cc)
 is_end seens.Another e = absurd (cc)
 
-pub not_end : (s : Seen) → spec.ends_stream s ≡ false → s ≡ seens.StreamEnd → ⊥
-not_end s e is = let f = sym (ap spec.ends_stream is) ∙ e in cc
+pub not_end : (s : Seen) → seeing.ends_stream s ≡ false → s ≡ seens.StreamEnd → ⊥
+not_end s e is = let f = sym (ap seeing.ends_stream is) ∙ e in cc
 
 pub failed_part : (a b : Bool) → (a && not b) ≡ true → (a ≡ true) × (b ≡ false)
 failed_part true true e = absurd (cc)

@@ -1,11 +1,12 @@
 -- All events that a parser still gives, as one list.
-use Rattle.std.specs.Prelude.{◌≡◌, ◌⊎◌, ◌<◌, ◌-◌, ◌^◌, List, [], None, Some, Result, Ok, Err}
+use Rattle.std.specs.Prelude.{◌≡◌, ◌⊎◌, ◌<◌, ◌≤◌, ◌-◌, ◌^◌, ℕ, Bool, true, false, List, [], length, None}
+use Rattle.std.specs.Prelude.{Some, Result, Ok, Err}
 use Rattle.granit_base.specs.Place.{Unread}
 use Rattle.granit_error.specs.OptionsData.{OptionsData}
 use Rattle.granit_error.specs.Refused.{Refused}
 use Rattle.granit_input.specs.Origin.{Origin}
 use Rattle.granit_lexemes.specs.PlainEvent.{PlainEvent}
-use Rattle.granit_parser.specs.Parsing.{LeadsTo, Parsing}
+use Rattle.granit_parser.specs.Parsing.{LeadsTo, Parsing, StandsAt}
 use Rattle.granit_parser.specs.Receiving.{RefusalIn}
 use Rattle.granit_restart.specs.Skipping.{with_pending}
 use Rattle.granit_stepper.specs.Stepping.{Stepping, StandsIn}
@@ -40,3 +41,20 @@ abbrev pub GathersAll : {I V : Type 0} → (I → Origin) → OptionsData → St
     → (V → List PlainEvent) → Parsing I → Type 0
 GathersAll origin o m (Ok v) view p = LeadsOut o m (view v)
 GathersAll origin o m (Err e) view p = RefusesLate origin o m p e
+
+-- these are the next events from a state on, at least one, and it is known in which state a parser stands behind them;
+-- where no more come they are all, or there is a refusal
+abbrev pub GathersSome : {I : Type 0} → (I → Unread → Type 0) → (I → Origin) → OptionsData → StepState
+    → Result Bool Refused → List PlainEvent → Parsing I → Type 0
+GathersSome unread origin o m (Ok true) es p =
+    (0 < length es) × ((n : StepState) × LeadsTo o m es n × StandsAt unread p n)
+GathersSome unread origin o m (Ok false) es p = LeadsOut o m es
+GathersSome unread origin o m (Err e) es p = RefusesLate origin o m p e
+
+-- the same of the events that wait, where so many are wanted at least
+abbrev pub WaitsOrRefuses : {I : Type 0} → (I → Unread → Type 0) → (I → Origin) → OptionsData → StepState → ℕ
+    → Result Bool Refused → Parsing I → Type 0
+WaitsOrRefuses unread origin o m count (Ok true) p =
+    (count ≤ length p.stepper.parser.given) × WaitsGathered unread o m p.stepper
+WaitsOrRefuses unread origin o m count (Ok false) p = LeadsOut o m p.stepper.parser.given
+WaitsOrRefuses unread origin o m count (Err e) p = RefusesLate origin o m p e

@@ -2,7 +2,7 @@
 use Rattle.std.specs.Prelude.{ℕ, ◌-◌, ◌^◌, min, suc, true}
 use Rattle.std.specs.Option.{option_map}
 use Rattle.granit_parser.specs.Parsing.{Parsing}
-use Rattle.granit_stepper.specs.Refusals.{recounted}
+use Rattle.granit_refusals.specs.BeforeTurn.{recounted}
 
 -- one more than the number of the last anchor, held at the greatest number of 64 bits
 abbrev pub next_number : {I : Type 0} → Parsing I → ℕ

@@ -19,12 +19,19 @@ use Rattle.granit_parser.specs.Recovering.{FailsAt, GivesCall, ParserIn, failed_
 use Rattle.granit_parser.specs.Sources.{IsSourceError}
 use Rattle.granit_receivers.specs.Kept.{IsKept}
 use Rattle.granit_receivers.specs.Sending.{is_last}
+use Rattle.granit_receivers.specs.Taking.{Took}
 use Rattle.granit_receivers.specs.declared.error.TryLoadError.{TryLoadError}
 use Rattle.granit_receivers.specs.declared.error.TryLoadError.TheVariants.{Scan, Receiver}
 use Rattle.granit_recovery.specs.Streams.{CallsGive}
 use Rattle.granit_restart.specs.Calls.{Calls}
 use Rattle.granit_stepper.specs.Numbers.{RefusesNumber}
 use Rattle.granit_steps.specs.Steps.{StepState, next_event}
+
+-- a receiver took these events at these places, by what it tells of both
+abbrev pub TookBy : {A : Type 0} → (taken : A → Option (List Event)) → (spans : A → Option (List Span)) → (old new : A)
+    → List (Event × Span) → Type 0
+TookBy taken spans old new =
+    Took (record { events = taken old; places = spans old }) (record { events = taken new; places = spans new })
 
 -- one by one these events are given from a state up to another one, and none of them is the last that is sent
 pub data SendsOn (o : OptionsData) (multi : Bool) : StepState → List PlainEvent → StepState → Type 0 where

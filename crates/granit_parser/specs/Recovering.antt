@@ -12,14 +12,15 @@ use Rattle.granit_input.specs.Origin.{Origin}
 use Rattle.granit_lexemes.specs.Here.{Here}
 use Rattle.granit_lexemes.specs.Onward.{Onward}
 use Rattle.granit_lexemes.specs.Outcome.{Fault}
-use Rattle.granit_lexemes.specs.PlainEvent.{Comment, DocumentEnd, DocumentStart, EventKind, PlainEvent, StreamEnd}
+use Rattle.granit_lexemes.specs.PlainEvent.{DocumentEnd, DocumentStart, EventKind, PlainEvent, StreamEnd}
 use Rattle.granit_parser.specs.Holding.{FaultLacksNumber, LeadsToFault, MetFault, ParserHolds, WaitsBehind, held_behind}
 use Rattle.granit_parser.specs.Holding.{held_room}
 use Rattle.granit_parser.specs.Parsing.{Next, Parsing}
 use Rattle.granit_parser.specs.Sources.{IfUnseen, NeverRecovers, TellsSource}
-use Rattle.granit_parser.specs.declared.recovery.Seen.{Seen}
-use Rattle.granit_parser.specs.declared.recovery.Seen.TheVariants as seens
 use Rattle.granit_receivers.specs.Kept.{IsKept}
+use Rattle.granit_seen.specs.Seeing.{seen_kind, seen_starts_document}
+use Rattle.granit_seen.specs.declared.seen.Seen.{Seen}
+use Rattle.granit_seen.specs.declared.seen.Seen.TheVariants as seens
 use Rattle.granit_recovery.specs.Asking.{LookTells}
 use Rattle.granit_recovery.specs.Streams.{EarlyOf, ReachedByCalls}
 use Rattle.granit_restart.specs.Ahead.{AheadOf, NoneComes, is_note}
@@ -112,6 +113,15 @@ pub record ParserIn {I : Type 0} (unread : I → Unread → Type 0) (p : Parsing
   pub between : IsOpen c → p.between ≡ c.between
   pub ended : c.over ≡ true → c.refusal ≡ None
   pub stays : c.over ≡ false → AnswersBy unread c.refusal p c
+
+-- this holds of each state to which calls led, if a parser is there
+abbrev pub ForCalls : {I : Type 0} → (I → Unread → Type 0) → Parsing I → (Calls → Type 0) → Type 0
+ForCalls unread p Holds = (c : Calls) → ReachedByCalls p.stepper.scanner.options c → ParserIn unread p c → Holds c
+
+-- the same where the next call gives something
+abbrev pub ForOpen : {I : Type 0} → (I → Unread → Type 0) → Parsing I → (Calls → Type 0) → Type 0
+ForOpen unread p Holds =
+    (c : Calls) → ReachedByCalls p.stepper.scanner.options c → IsOpen c → ParserIn unread p c → Holds c
 
 -- ---- what a call gives
 
@@ -217,36 +227,10 @@ pub data ComesBy (o : OptionsData) (m : StepState) : StepState → Type 0 where
 abbrev pub MeetsNumber : (renumbered : Bool) → OptionsData → StepState → Type 0
 MeetsNumber renumbered o m = (n : StepState) × (e : Refused) × ComesBy o m n × RefusesNumber renumbered o n e
 
--- what was looked at, as far as recovery asks
-abbrev pub seen_kind : EventKind → Seen
-seen_kind (Comment text placement) = seens.Comment
-seen_kind (DocumentStart explicit version) = seens.DocumentStart
-seen_kind DocumentEnd = seens.DocumentEnd
-seen_kind StreamEnd = seens.StreamEnd
-seen_kind kind = seens.Another
-
 abbrev pub seen_in : Next → Seen
 seen_in None = seens.Nothing
 seen_in (Some (Ok x)) = seen_kind (plain_event x).kind
 seen_in (Some (Err e)) = seens.Nothing
-
-abbrev pub seen_starts_document : Seen → Bool
-seen_starts_document seens.DocumentStart = true
-seen_starts_document seen = false
-
-abbrev pub seen_ends_document : Seen → Bool
-seen_ends_document seens.DocumentEnd = true
-seen_ends_document seen = false
-
-abbrev pub ends_stream : Seen → Bool
-ends_stream seens.StreamEnd = true
-ends_stream seen = false
-
--- whether what was looked at tells that another document is there: any event but a comment
-abbrev pub seen_tells_document : Seen → Bool
-seen_tells_document seens.Nothing = false
-seen_tells_document seens.Comment = false
-seen_tells_document seen = true
 
 -- what is noted where an event is given: whether the end of a document is the last, comments aside, and whether that of
 -- the stream was given

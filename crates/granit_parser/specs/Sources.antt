@@ -1,11 +1,12 @@
 -- What calls give and leave where the source of an input may fail.
 use Rattle.std.specs.Prelude.{◌≡◌, ◌≤◌, ℕ, true, false, [], Option, Some, None, Result, Ok, Err, IfErr, IfSome, IsSome}
-use Rattle.std.specs.Prelude.{is_some}
+use Rattle.std.specs.Prelude.{◌⊎◌, is_some}
 use Rattle.granit_base.specs.Place.{Place}
 use Rattle.granit_cursor.specs.Reading.{Reading}
 use Rattle.granit_error.specs.FaultKind.{FaultKind, NoMemory}
 use Rattle.granit_error.specs.Refused.{Refused}
 use Rattle.granit_input.specs.Origin.{Origin, Goes}
+use Rattle.granit_reader.specs.Meets.{UnlessMemory}
 use Rattle.granit_stepper.specs.Stepping.{Stepping}
 
 -- the first error that a source gave, at that place, outside any named source; its byte offset is told exactly where
@@ -21,6 +22,10 @@ abbrev pub TellsSource : {I X : Type 0} → (I → Origin) → Option (Result X 
 TellsSource origin None at = ⊥
 TellsSource origin (Some (Ok x)) at = ⊥
 TellsSource origin (Some (Err e)) at = IsSourceError (origin at.input) at.place e
+
+-- this holds unless memory ran out, or the error of the source was given
+abbrev pub UnlessSource : {I X : Type 0} → (I → Origin) → Result X Refused → Stepping I → Type 0 → Type 0
+UnlessSource origin r new Holds = UnlessMemory r (Holds ⊎ TellsSource origin (Some r) new.scanner.cursor)
 
 -- what a call gives where nothing was looked at before
 abbrev pub IfUnseen : {X : Type 0} → Option X → Type 0 → Type 0

@@ -1,10 +1,10 @@
 //! All events of an input, gathered.
-ghost use Rattle.std.specs.Prelude.{◌≡◌, ◌⊎◌, ◌∷◌, [], None, Some, true, false, IfErr, IfOk, OnOk};
+ghost use Rattle.std.specs.Prelude.{◌≡◌, ◌⊎◌, ◌∷◌, [], None, Some, Ok, true, false, IfErr, IfOk, OnOk};
 ghost use Rattle.granit_cursor.specs.Reading.{GoesOnward, Moves};
 ghost use Rattle.granit_error.specs.Refused.{Refused};
 ghost use Rattle.granit_event.specs.Events.{plain_event, plain_events};
 ghost use Rattle.granit_input.specs.Origin.{Goes};
-ghost use Rattle.granit_parser.specs.Gathering.{Gathered, GathersAll, WaitsGathered};
+ghost use Rattle.granit_parser.specs.Gathering.{Gathered, GathersAll, GathersSome, WaitsGathered, WaitsOrRefuses};
 ghost use Rattle.granit_parser.specs.Parsing.{IsOver, StandsAt};
 ghost use Rattle.granit_parser.specs.Sources.{GoesGiving, GoesUnless, TellsSource};
 ghost use Rattle.granit_parser.specs.Waiting.{GathersNone};
@@ -24,6 +24,10 @@ use granit_input::BorrowedInput;
 use granit_refused::{Refused as Refusal, error_of, refuse};
 use std::alloc::Global;
 use std::collections::VecDeque;
+use std::mem;
+
+/// So many times the next events are asked for, at most, where some are gathered: what they take stays near.
+const BATCH: u64 = 128;
 
 impl<'input, T: BorrowedInput<'input>> Parser<'input, T> {
     /// All events that `next_event` would still give, in order; none behind a refusal that was given. It costs less
@@ -51,6 +55,115 @@ impl<'input, T: BorrowedInput<'input>> Parser<'input, T> {
             Some(Err(error)) => Err(error),
             Some(Ok(event)) => self.gather_behind(alloc, event),
         }
+    }
+
+    /// Some of the events that `next_event` would still give, the next ones, in order, in the place of what a list
+    /// held; false where they are the last. The room of the list is used again.
+    ///
+    /// # Errors
+    ///
+    /// As `next_event`; the events before it are dropped.
+    pub fn gather_some(
+        &mut self,
+        alloc: Global,
+        batch: &mut Vec<(Event<'input>, Span)>,
+    ) -> Result<bool, ScanError>
+        requires seen { self.old.peeked ≡ None }
+        ensures known { (m : StepState) → StandsAt T.unread self.old m
+            → GathersSome T.unread T.origin self.old.stepper.scanner.options m result (plain_events batch.new.items)
+            self.new }
+        ensures over { IsOver self.old → (result ≡ Ok false) × (batch.new.items ≡ []) }
+        ensures seen { OnOk result (self.new.peeked ≡ None) }
+        ensures given { IfErr result (λ e. (kept : Refused) × (self.new.given ≡ Some kept)) }
+        ensures options { self.new.stepper.scanner.options ≡ self.old.stepper.scanner.options }
+        ensures renumbered { self.new.stepper.renumbered ≡ self.old.stepper.renumbered }
+        ensures goes { IfOk result (λ v. Goes (T.origin self.old.stepper.scanner.cursor.input)
+            (T.origin self.new.stepper.scanner.cursor.input)) }
+        ensures failed { IfErr result (λ e. GoesGiving (T.origin self.old.stepper.scanner.cursor.input)
+            (T.origin self.new.stepper.scanner.cursor.input)) }
+        ensures onward { GoesOnward T.unread self.old.stepper.scanner.cursor self.new.stepper.scanner.cursor }
+    {
+        if self.has_failed() {
+            batch.clear();
+            return Ok(false);
+        }
+        let room = mem::replace(batch, Vec::new(alloc));
+        match self.wait_in(alloc, room) {
+            Ok(()) => self.fill_batch(alloc, batch),
+            Err(_) => Err(self.run_out()),
+        }
+    }
+
+    /// All that waits does so in the room of a list.
+    fn wait_in(&mut self, alloc: Global, room: Vec<(Event<'input>, Span)>) -> Result<(), NoMemory>
+        ensures known { (m : StepState) → StandsIn T.unread self.old.stepper m → OnOk result
+            (StandsIn T.unread self.new.stepper m) }
+        ensures first { OnOk result (self.new.stepper.first ≡ None) }
+        ensures peeked { self.new.peeked ≡ self.old.peeked }
+        ensures scanner { self.new.stepper.scanner ≡ self.old.stepper.scanner }
+        ensures renumbered { self.new.stepper.renumbered ≡ self.old.stepper.renumbered }
+    {
+        self.stepper.wait_in(alloc, room)
+    }
+
+    /// All that waits, and what comes next.
+    fn fill_batch(
+        &mut self,
+        alloc: Global,
+        batch: &mut Vec<(Event<'input>, Span)>,
+    ) -> Result<bool, ScanError>
+        requires seen { self.old.peeked ≡ None }
+        ensures known { (m : StepState) → WaitsGathered T.unread self.old.stepper.scanner.options m self.old.stepper
+            → GathersSome T.unread T.origin self.old.stepper.scanner.options m result (plain_events batch.new.items)
+            self.new }
+        ensures seen { OnOk result (self.new.peeked ≡ None) }
+        ensures given { IfErr result (λ e. (kept : Refused) × (self.new.given ≡ Some kept)) }
+        ensures options { self.new.stepper.scanner.options ≡ self.old.stepper.scanner.options }
+        ensures renumbered { self.new.stepper.renumbered ≡ self.old.stepper.renumbered }
+        ensures goes { IfOk result (λ v. Goes (T.origin self.old.stepper.scanner.cursor.input)
+            (T.origin self.new.stepper.scanner.cursor.input)) }
+        ensures failed { IfErr result (λ e. GoesGiving (T.origin self.old.stepper.scanner.cursor.input)
+            (T.origin self.new.stepper.scanner.cursor.input)) }
+        ensures onward { GoesOnward T.unread self.old.stepper.scanner.cursor self.new.stepper.scanner.cursor }
+    {
+        match self.gather_turns(alloc, BATCH) {
+            Ok(more) => {
+                *batch = self.take_waiting(alloc).into_vec();
+                self.note_batch(batch.as_slice());
+                Ok(more)
+            }
+            Err(error) => Err(error),
+        }
+    }
+
+    /// Notes where events that are given lead: the last of them tells it, but for comments.
+    fn note_batch(&mut self, events: &[(Event<'input>, Span)])
+        ensures { self.new ≡ record self.old {
+          between = self.new.between;
+          over = self.new.over;
+          answered = self.new.answered;
+        } }
+    {
+        let mut left = events.len();
+        'events: while left > 0 {
+            left -= 1;
+            let (event, _) = &events[left];
+            if !is_comment(event) {
+                return self.note_last(event);
+            }
+        }
+    }
+
+    /// Notes where the last of some events leads.
+    fn note_last(&mut self, event: &Event<'input>)
+        ensures { self.new ≡ record self.old {
+          between = self.new.between;
+          over = self.new.over;
+          answered = false;
+        } }
+    {
+        self.between = false;
+        self.note_event(event);
     }
 
     /// An event that was given, and those behind it.
@@ -102,13 +215,35 @@ impl<'input, T: BorrowedInput<'input>> Parser<'input, T> {
             (T.origin self.new.stepper.scanner.cursor.input)) }
         ensures onward { GoesOnward T.unread self.old.stepper.scanner.cursor self.new.stepper.scanner.cursor }
     {
+        match self.gather_turns(alloc, u64::MAX) {
+            Ok(true) => Err(self.run_out()),
+            Ok(false) => Ok(self.take_waiting(alloc).into_vec()),
+            Err(error) => Err(error),
+        }
+    }
+
+    /// So many times the next events wait behind those that do, at least one each time; false where nothing more came.
+    fn gather_turns(&mut self, alloc: Global, turns: u64) -> Result<bool, ScanError>
+        requires seen { self.old.peeked ≡ None }
+        ensures known { (m : StepState) → WaitsGathered T.unread self.old.stepper.scanner.options m self.old.stepper
+            → WaitsOrRefuses T.unread T.origin self.old.stepper.scanner.options m turns result self.new }
+        ensures seen { OnOk result (self.new.peeked ≡ None) }
+        ensures given { IfErr result (λ e. (kept : Refused) × (self.new.given ≡ Some kept)) }
+        ensures options { self.new.stepper.scanner.options ≡ self.old.stepper.scanner.options }
+        ensures renumbered { self.new.stepper.renumbered ≡ self.old.stepper.renumbered }
+        ensures goes { IfOk result (λ v. Goes (T.origin self.old.stepper.scanner.cursor.input)
+            (T.origin self.new.stepper.scanner.cursor.input)) }
+        ensures failed { IfErr result (λ e. GoesGiving (T.origin self.old.stepper.scanner.cursor.input)
+            (T.origin self.new.stepper.scanner.cursor.input)) }
+        ensures onward { GoesOnward T.unread self.old.stepper.scanner.cursor self.new.stepper.scanner.cursor }
+    {
         let mut fault = None;
-        'events: for _ in 0..u64::MAX {
+        'turns: for _turn in 0..turns {
             match self.more_events(&mut fault) {
                 Ok(true) => {}
                 Ok(false) => {
                     self.note_end();
-                    return Ok(self.take_waiting(alloc).into_vec());
+                    return Ok(false);
                 }
                 Err(refused) => {
                     let error = error_of(fault, refused);
@@ -118,7 +253,7 @@ impl<'input, T: BorrowedInput<'input>> Parser<'input, T> {
                 }
             }
         }
-        Err(self.run_out())
+        Ok(true)
     }
 
     /// The next events wait behind those that do, or there is the error of the source in the place of whatever was
@@ -177,4 +312,8 @@ impl<'input, T: BorrowedInput<'input>> Parser<'input, T> {
     {
         self.over = true;
     }
+}
+
+fn is_comment(event: &Event<'_>) -> bool {
+    matches!(event, Event::Comment(_, _))
 }

@@ -21,7 +21,7 @@ ghost use Rattle.granit_parser.specs.Holding.{ParserHolds, ReadsHeld, WaitsBehin
 ghost use Rattle.granit_parser.specs.Parsing as spec;
 ghost use Rattle.granit_parser.specs.Alone.{EndsAlone};
 ghost use Rattle.granit_parser.specs.Parsing.{EndsBehind, EndsText, EndsTold, EndsWith, GivesNext, IsOver, KeepsGiven};
-ghost use Rattle.granit_parser.specs.Parsing.{LeadsTo, ParserPeeksAs, StandsAt, Starves, StepsBy, next_view};
+ghost use Rattle.granit_parser.specs.Parsing.{LeadsTo, ParserPeeksAs, StandsAt, Starves, StepsBy};
 ghost use Rattle.granit_parser.specs.Parsing.{notes_answered};
 ghost use Rattle.granit_parser.specs.Recovering.{GivesCall, CallGivesHeld, GoesWithCalls, IsClosed, IsOpen, ParserIn};
 ghost use Rattle.granit_parser.specs.Recovering.{PeeksIn, ReadsNext, SeenBy, notes_between, notes_over};
@@ -39,7 +39,7 @@ ghost use Rattle.granit_stepper.specs.Holding.{HoldsFault};
 ghost use Rattle.granit_stepper.specs.Refusals.{HoldsRefusal, StandsRefused};
 ghost use Rattle.granit_stepper.specs.Stepping.{StandsIn, refused_kind};
 ghost use Rattle.granit_stepper.specs.Waiting.{IsAtEnd, SameButCursor};
-ghost use Rattle.granit_shifted.specs.Alone.{TellsAlone};
+ghost use Rattle.granit_shifted.specs.Alone.{TellsMoved};
 ghost use Rattle.granit_shifted.specs.Shift.{Shift};
 ghost use Rattle.granit_steps.specs.Steps as steps;
 ghost use Rattle.granit_steps.specs.Steps.{StepState};
@@ -197,7 +197,7 @@ impl<'input, T: BorrowedInput<'input>> Parser<'input, T> {
             → EndsText self.old.stepper.scanner.options x es self.new.stepper.renumbered m result
             ⊎ TellsSource T.origin result self.new.stepper.scanner.cursor }
         ensures alone { (x : List ℕ) (shift : Shift) (s : StepState) (es : List PlainEvent) (m : StepState)
-            → TellsAlone self.old.stepper.scanner.options x shift s → StandsAt T.unread self.old m
+            → TellsMoved self.old.stepper.scanner.options x shift s → StandsAt T.unread self.old m
             → LeadsTo self.old.stepper.scanner.options s es m
             → EndsAlone self.old.stepper.scanner.options x shift es self.new.stepper.renumbered m result
             ⊎ TellsSource T.origin result self.new.stepper.scanner.cursor }
@@ -230,7 +230,8 @@ impl<'input, T: BorrowedInput<'input>> Parser<'input, T> {
         ensures onward { GoesOnward T.unread self.old.stepper.scanner.cursor self.new.stepper.scanner.cursor }
     {
         an_open_call_gives_something();
-        let next = self.take_event();
+        let mut next: Option<Result<(Event<'input>, Span), ScanError>> = None;
+        self.take_event(&mut next);
         self.note(&next);
         next
     }
@@ -259,6 +260,7 @@ impl<'input, T: BorrowedInput<'input>> Parser<'input, T> {
         }
     }
 
+    #[inline(never)]
     pub(crate) fn note_refusal(&mut self, error: &ScanError)
         requires seen { self.old.peeked ≡ None }
         requires ends { self.old.stepper.failed ≡ true }
@@ -266,7 +268,7 @@ impl<'input, T: BorrowedInput<'input>> Parser<'input, T> {
         ensures starved { self.new.starved ≡ wants_memory error.now.kind }
         ensures rest { self.new ≡ record self.old { given = self.new.given; starved = self.new.starved } }
     {
-        self.given = Some(kept(self.alloc, error));
+        drop(self.given.replace(kept(self.alloc, error)));
         self.starved = wants_memory(error);
     }
 
@@ -274,26 +276,26 @@ impl<'input, T: BorrowedInput<'input>> Parser<'input, T> {
     pub(crate) fn forget_refusal(&mut self)
         ensures { self.new ≡ record self.old { peeked = None; given = None; starved = false } }
     {
-        self.peeked = None;
-        self.given = None;
+        drop(self.peeked.take());
+        drop(self.given.take());
         self.starved = false;
     }
 
-    /// What was looked at, or the next event.
-    fn take_event(&mut self) -> Option<Result<(Event<'input>, Span), ScanError>>
+    /// What was looked at, or the next event, is put there.
+    fn take_event(&mut self, next: &mut Option<Result<(Event<'input>, Span), ScanError>>)
         ensures known { (m : StepState) → StandsAt T.unread self.old m
-            → StepsBy T.unread result self.old.stepper self.new.stepper m
-            ⊎ TellsSource T.origin result self.new.stepper.scanner.cursor }
+            → StepsBy T.unread next.new self.old.stepper self.new.stepper m
+            ⊎ TellsSource T.origin next.new self.new.stepper.scanner.cursor }
         ensures calls { (c : Calls) → ReachedByCalls self.old.stepper.scanner.options c
-            → SeenBy T.unread self.old.peeked self.old.stepper c → ReadsNext T.unread result self.new.stepper c
-            ⊎ TellsSource T.origin result self.new.stepper.scanner.cursor }
+            → SeenBy T.unread self.old.peeked self.old.stepper c → ReadsNext T.unread next.new self.new.stepper c
+            ⊎ TellsSource T.origin next.new self.new.stepper.scanner.cursor }
         ensures waits { (m : StepState) (f : Refused) → WaitsBehind T.unread self.old.peeked self.old.stepper m f
-            → ReadsHeld T.unread result self.new.stepper m f
-            ⊎ TellsSource T.origin result self.new.stepper.scanner.cursor }
-        ensures source { IfUnseen self.old.peeked (TellsError T.origin self.old.stepper result
+            → ReadsHeld T.unread next.new self.new.stepper m f
+            ⊎ TellsSource T.origin next.new self.new.stepper.scanner.cursor }
+        ensures source { IfUnseen self.old.peeked (TellsError T.origin self.old.stepper next.new
             self.new.stepper.scanner.cursor) }
-        ensures at_once { IfUnseen self.old.peeked (GivesAtOnce T.origin self.old.stepper result self.new.stepper) }
-        ensures lost { IfUnseen self.old.peeked (NeverRecovers T.origin self.old.stepper result
+        ensures at_once { IfUnseen self.old.peeked (GivesAtOnce T.origin self.old.stepper next.new self.new.stepper) }
+        ensures lost { IfUnseen self.old.peeked (NeverRecovers T.origin self.old.stepper next.new
             self.new.stepper) }
         ensures peeked { self.new.peeked ≡ None }
         ensures given { self.new.given ≡ self.old.given }
@@ -301,20 +303,29 @@ impl<'input, T: BorrowedInput<'input>> Parser<'input, T> {
         ensures between { self.new.between ≡ self.old.between }
         ensures answered { self.new.answered ≡ self.old.answered }
         ensures going { self.new.over ≡ self.old.over }
-        ensures seen { IfSome self.old.peeked (λ r. (result ≡ Some r) × (self.new.stepper ≡ self.old.stepper)) }
-        ensures refused { EndsWith result self.new.stepper }
-        ensures over { IsOver self.old → (result ≡ None) × (self.new ≡ self.old) }
+        ensures seen { IfSome self.old.peeked (λ r. (next.new ≡ Some r) × (self.new.stepper ≡ self.old.stepper)) }
+        ensures refused { EndsWith next.new self.new.stepper }
+        ensures over { IsOver self.old → (next.new ≡ None) × (self.new ≡ self.old) }
         ensures options { self.new.stepper.scanner.options ≡ self.old.stepper.scanner.options }
         ensures renumbered { self.new.stepper.renumbered ≡ self.old.stepper.renumbered }
-        ensures moves { IfUnseen self.old.peeked (MovesUnless T.left T.origin result
+        ensures moves { IfUnseen self.old.peeked (MovesUnless T.left T.origin next.new
             self.old.stepper.scanner.cursor self.new.stepper.scanner.cursor) }
         ensures onward { GoesOnward T.unread self.old.stepper.scanner.cursor self.new.stepper.scanner.cursor }
     {
         if self.peeked.is_none() {
-            self.read_event()
+            self.read_event(next);
         } else {
-            self.peeked.take()
+            self.put_seen(next);
         }
+    }
+
+    /// What was looked at is put there. Apart, since room for an event would be cleared on the way of each one.
+    #[inline(never)]
+    fn put_seen(&mut self, next: &mut Option<Result<(Event<'input>, Span), ScanError>>)
+        ensures seen { next.new ≡ self.old.peeked }
+        ensures rest { self.new ≡ record self.old { peeked = None } }
+    {
+        *next = self.peeked.take();
     }
 
     /// What the next call of `next_event` gives, which gives it all the same; none behind the end of the stream, and
@@ -339,7 +350,8 @@ impl<'input, T: BorrowedInput<'input>> Parser<'input, T> {
     {
         an_open_call_gives_something();
         if self.peeked.is_none() {
-            let next = self.read_event();
+            let mut next: Option<Result<(Event<'input>, Span), ScanError>> = None;
+            self.read_event(&mut next);
             self.put_ahead(next);
         }
     }
@@ -371,7 +383,7 @@ impl<'input, T: BorrowedInput<'input>> Parser<'input, T> {
     pub(crate) fn forget(&mut self)
         ensures { self.new ≡ record self.old { peeked = None } }
     {
-        self.peeked = None;
+        drop(self.peeked.take());
     }
 
     /// What was looked at.
@@ -385,44 +397,44 @@ impl<'input, T: BorrowedInput<'input>> Parser<'input, T> {
         }
     }
 
-    /// The next event of the input, or the error of its source in the place of whatever was read up to that.
-    fn read_event(&mut self) -> Option<Result<(Event<'input>, Span), ScanError>>
+    /// The next event of the input is put there, or the error of its source, whatever was read up to that.
+    fn read_event(&mut self, next: &mut Option<Result<(Event<'input>, Span), ScanError>>)
         ensures known { (m : StepState) → StandsIn T.unread self.old.stepper m
-            → StepsBy T.unread result self.old.stepper self.new.stepper m
-            ⊎ TellsSource T.origin result self.new.stepper.scanner.cursor }
+            → StepsBy T.unread next.new self.old.stepper self.new.stepper m
+            ⊎ TellsSource T.origin next.new self.new.stepper.scanner.cursor }
         ensures sure { (m : StepState) → StandsIn T.unread self.old.stepper m
             → (T.origin self.new.stepper.scanner.cursor.input).error ≡ None
-            → StepsBy T.unread result self.old.stepper self.new.stepper m }
+            → StepsBy T.unread next.new self.old.stepper self.new.stepper m }
         ensures calls { (c : Calls) → ReachedByCalls self.old.stepper.scanner.options c
             → GoesWithCalls T.unread self.old.stepper c
-            → ReadsNext T.unread result self.new.stepper c
-            ⊎ TellsSource T.origin result self.new.stepper.scanner.cursor }
+            → ReadsNext T.unread next.new self.new.stepper c
+            ⊎ TellsSource T.origin next.new self.new.stepper.scanner.cursor }
         ensures waits { (m : StepState) (f : Refused) → HoldsFault T.unread self.old.stepper m f
-            → ReadsHeld T.unread result self.new.stepper m f
-            ⊎ TellsSource T.origin result self.new.stepper.scanner.cursor }
-        ensures source { TellsError T.origin self.old.stepper result self.new.stepper.scanner.cursor }
-        ensures at_once { GivesAtOnce T.origin self.old.stepper result self.new.stepper }
-        ensures lost { NeverRecovers T.origin self.old.stepper result self.new.stepper }
+            → ReadsHeld T.unread next.new self.new.stepper m f
+            ⊎ TellsSource T.origin next.new self.new.stepper.scanner.cursor }
+        ensures source { TellsError T.origin self.old.stepper next.new self.new.stepper.scanner.cursor }
+        ensures at_once { GivesAtOnce T.origin self.old.stepper next.new self.new.stepper }
+        ensures lost { NeverRecovers T.origin self.old.stepper next.new self.new.stepper }
         ensures peeked { self.new.peeked ≡ self.old.peeked }
         ensures given { self.new.given ≡ self.old.given }
         ensures starved { self.new.starved ≡ self.old.starved }
         ensures between { self.new.between ≡ self.old.between }
         ensures answered { self.new.answered ≡ self.old.answered }
         ensures going { self.new.over ≡ self.old.over }
-        ensures refused { EndsWith result self.new.stepper }
-        ensures over { self.old.stepper.failed ≡ true → (result ≡ None) × (self.new ≡ self.old) }
+        ensures refused { EndsWith next.new self.new.stepper }
+        ensures over { self.old.stepper.failed ≡ true → (next.new ≡ None) × (self.new ≡ self.old) }
         ensures options { self.new.stepper.scanner.options ≡ self.old.stepper.scanner.options }
         ensures renumbered { self.new.stepper.renumbered ≡ self.old.stepper.renumbered }
-        ensures moves { MovesUnless T.left T.origin result self.old.stepper.scanner.cursor
+        ensures moves { MovesUnless T.left T.origin next.new self.old.stepper.scanner.cursor
             self.new.stepper.scanner.cursor }
         ensures onward { GoesOnward T.unread self.old.stepper.scanner.cursor self.new.stepper.scanner.cursor }
     {
         if self.has_failed() {
-            return None;
+            *next = None;
+            return;
         }
-        let event = self.step_event();
-        let error = self.take_source_error();
-        unless_failed(event, error)
+        self.step_event(next);
+        put_error(next, self.take_source_error());
     }
 
     /// Whether nothing more is given.
@@ -468,34 +480,34 @@ impl<'input, T: BorrowedInput<'input>> Parser<'input, T> {
         self.stepper.take_source_error()
     }
 
-    /// The next event of what was read, whether the source failed or not.
-    pub(crate) fn step_event(&mut self) -> Option<Result<(Event<'input>, Span), ScanError>>
+    /// The next event of what was read is put there, whether the source failed or not.
+    pub(crate) fn step_event(&mut self, next: &mut Option<Result<(Event<'input>, Span), ScanError>>)
         ensures known { (m : StepState) → StandsIn T.unread self.old.stepper m
-            → GivesNext result (StandsIn T.unread self.new.stepper)
+            → GivesNext next.new (StandsIn T.unread self.new.stepper)
             self.old.stepper.renumbered self.old.stepper.scanner.options m }
         ensures calls { (c : Calls) → ReachedByCalls self.old.stepper.scanner.options c
             → GoesWithCalls T.unread self.old.stepper c
-            → ReadsNext T.unread result self.new.stepper c }
+            → ReadsNext T.unread next.new self.new.stepper c }
         ensures waits { (m : StepState) (f : Refused) → HoldsFault T.unread self.old.stepper m f
-            → ReadsHeld T.unread result self.new.stepper m f }
+            → ReadsHeld T.unread next.new self.new.stepper m f }
         ensures waiting { self.old.stepper.failed ≡ false
-            → TakesFirst result self.old.stepper self.new.stepper }
-        ensures ended { IsAtEnd self.old.stepper → (result ≡ None) × (self.new.stepper ≡ self.old.stepper) }
+            → TakesFirst next.new self.old.stepper self.new.stepper }
+        ensures ended { IsAtEnd self.old.stepper → (next.new ≡ None) × (self.new.stepper ≡ self.old.stepper) }
         ensures peeked { self.new.peeked ≡ self.old.peeked }
         ensures given { self.new.given ≡ self.old.given }
         ensures starved { self.new.starved ≡ self.old.starved }
         ensures between { self.new.between ≡ self.old.between }
         ensures answered { self.new.answered ≡ self.old.answered }
         ensures going { self.new.over ≡ self.old.over }
-        ensures lost { NeverRevives result self.new.stepper }
-        ensures refused { EndsWith result self.new.stepper }
-        ensures over { self.old.stepper.failed ≡ true → (result ≡ None) × (self.new ≡ self.old) }
+        ensures lost { NeverRevives next.new self.new.stepper }
+        ensures refused { EndsWith next.new self.new.stepper }
+        ensures over { self.old.stepper.failed ≡ true → (next.new ≡ None) × (self.new ≡ self.old) }
         ensures options { self.new.stepper.scanner.options ≡ self.old.stepper.scanner.options }
         ensures renumbered { self.new.stepper.renumbered ≡ self.old.stepper.renumbered }
         ensures moves { Moves T.unread T.left T.origin self.old.stepper.scanner.cursor self.new.stepper.scanner.cursor }
     {
         calls_go_by_turns();
-        next_of(self.stepper.next_event(self.alloc))
+        self.stepper.next_event(self.alloc, next);
     }
 
     /// Whether it isn't known where reading stands, since memory ran out in the midst of a run.
@@ -527,19 +539,6 @@ impl<'input, T: BorrowedInput<'input>> Parser<'input, T> {
     }
 }
 
-#[inline(always)]
-fn next_of<'a>(
-    event: Result<Option<(Event<'a>, Span)>, ScanError>,
-) -> Option<Result<(Event<'a>, Span), ScanError>>
-    ensures { result ≡ next_view event.entry }
-{
-    match event {
-        Ok(None) => None,
-        Ok(Some(event)) => Some(Ok(event)),
-        Err(error) => Some(Err(error)),
-    }
-}
-
 fn wants_memory(error: &ScanError) -> bool
     ensures { result ≡ wants_memory error.now.kind }
 {
@@ -548,16 +547,13 @@ fn wants_memory(error: &ScanError) -> bool
 
 /// An event, or the error of the source in its place.
 #[inline(always)]
-fn unless_failed<'a>(
-    event: Option<Result<(Event<'a>, Span), ScanError>>,
-    error: Option<ScanError>,
-) -> Option<Result<(Event<'a>, Span), ScanError>>
-    ensures { result ≡ unless_failed event.entry error }
+fn put_error<'a>(next: &mut Option<Result<(Event<'a>, Span), ScanError>>, error: Option<ScanError>)
+    ensures { next.new ≡ unless_failed next.old error }
 {
-    match error {
-        None => event,
-        Some(error) => Some(Err(error)),
-    }
+    let Some(error) = error else {
+        return;
+    };
+    *next = Some(Err(error));
 }
 
 /// The events one by one, as `next_event` gives them, up to the end of the stream or a refusal.

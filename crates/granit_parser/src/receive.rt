@@ -6,15 +6,12 @@ ghost use Rattle.granit_error.specs.FaultKind.{NoMemory as OutOfMemory};
 ghost use Rattle.granit_error.specs.Refused.{Refused};
 ghost use Rattle.granit_event.specs.Events.{event_kind};
 ghost use Rattle.granit_parser.specs.Parsing.{IsOver, StandsAt, StarvedBy};
-ghost use Rattle.granit_parser.specs.Receiving as spec;
 ghost use Rattle.granit_parser.specs.Receiving.{CallsLeave, FirstCall, GivesFirst, KeepsRefusal, KeepsScan, Loads};
-ghost use Rattle.granit_parser.specs.Receiving.{LoadsRest, Tries, TriesRest, UnlessRefused, WantsOnly, scanned};
-ghost use Rattle.granit_parser.specs.Recovering.{IsOpen, ParserIn};
+ghost use Rattle.granit_parser.specs.Receiving.{LoadsRest, TookBy, Tries, TriesRest, UnlessRefused, WantsOnly};
+ghost use Rattle.granit_parser.specs.Receiving.{scanned};
+ghost use Rattle.granit_parser.specs.Recovering.{ForOpen};
 ghost use Rattle.granit_parser.specs.Sources.{IfUnseen, MovesUnless, TellsError, TellsMet};
 ghost use Rattle.granit_receivers.specs.Kept.{CountsErrors, GivesAgain, KeptAgain, ScansAgain};
-ghost use Rattle.granit_receivers.specs.Taking.{Took};
-ghost use Rattle.granit_recovery.specs.Streams.{ReachedByCalls};
-ghost use Rattle.granit_restart.specs.Calls.{Calls};
 ghost use Rattle.granit_steps.specs.Steps.{StepState};
 
 use crate::parser::Parser;
@@ -41,26 +38,18 @@ impl<'input, T: BorrowedInput<'input>> Parser<'input, T> {
     ) -> Result<(), ScanError>
         ensures known { (m : StepState) → StandsAt T.unread self.old m
             → Loads T.unread T.origin self.old.stepper.scanner.options multi m
-            (Took (record { events = R.taken recv.old; places = R.spans recv.old })
-            (record { events = R.taken recv.new; places = R.spans recv.new })) self.new result }
-        ensures calls { (c : Calls) → ReachedByCalls self.old.stepper.scanner.options c → IsOpen c
-            → ParserIn T.unread self.old c
-            → CallsLeave T.unread T.origin self.old.stepper.scanner.options multi
-            (Took (record { events = R.taken recv.old; places = R.spans recv.old })
-            (record { events = R.taken recv.new; places = R.spans recv.new }))
-            (Some result) self.new c }
+            (TookBy R.taken R.spans recv.old recv.new) self.new result }
+        ensures calls { ForOpen T.unread self.old (CallsLeave T.unread T.origin self.old.stepper.scanner.options multi
+            (TookBy R.taken R.spans recv.old recv.new) (Some result) self.new) }
         ensures again { IfSome self.old.given (λ e. GivesAgain e result × (recv.new ≡ recv.old)
             × (self.new ≡ self.old)) }
         ensures source { IfUnseen self.old.peeked (TellsError T.origin self.old.stepper (Some result)
             self.new.stepper.scanner.cursor) }
         ensures peeked { self.new.peeked ≡ None }
-        ensures answered { (c : Calls) → ReachedByCalls self.old.stepper.scanner.options c → IsOpen c
-            → ParserIn T.unread self.old c → UnlessRefused (Some result) (self.new.answered ≡ false) }
+        ensures answered { ForOpen T.unread self.old (λ c. UnlessRefused (Some result) (self.new.answered ≡ false)) }
         ensures given { self.old.given ≡ None → KeepsRefusal result self.new.given }
-        ensures memory { self.old.given ≡ None → (self.old.starved ≡ false) × WantsOnly self.new.starved
-            (Took (record { events = R.taken recv.old; places = R.spans recv.old })
-            (record { events = R.taken recv.new; places = R.spans recv.new }))
-            (Some result) }
+        ensures memory { self.old.given ≡ None → (self.old.starved ≡ false)
+            × WantsOnly self.new.starved (TookBy R.taken R.spans recv.old recv.new) (Some result) }
         ensures options { self.new.stepper.scanner.options ≡ self.old.stepper.scanner.options }
         ensures renumbered { self.new.stepper.renumbered ≡ self.old.stepper.renumbered }
         ensures moves { MovesUnless T.left T.origin (Some result) self.old.stepper.scanner.cursor
@@ -87,24 +76,16 @@ impl<'input, T: BorrowedInput<'input>> Parser<'input, T> {
     ) -> Result<(), ScanError>
         ensures known { (m : StepState) → StandsAt T.unread self.old m
             → LoadsRest T.unread T.origin self.old.stepper.scanner.options multi m
-            (Took (record { events = R.taken recv.old; places = R.spans recv.old })
-            (record { events = R.taken recv.new; places = R.spans recv.new })) self.new result }
-        ensures calls { (c : Calls) → ReachedByCalls self.old.stepper.scanner.options c → IsOpen c
-            → ParserIn T.unread self.old c
-            → CallsLeave T.unread T.origin self.old.stepper.scanner.options multi
-            (Took (record { events = R.taken recv.old; places = R.spans recv.old })
-            (record { events = R.taken recv.new; places = R.spans recv.new }))
-            (Some result) self.new c }
+            (TookBy R.taken R.spans recv.old recv.new) self.new result }
+        ensures calls { ForOpen T.unread self.old (CallsLeave T.unread T.origin self.old.stepper.scanner.options multi
+            (TookBy R.taken R.spans recv.old recv.new) (Some result) self.new) }
         ensures source { self.old.peeked ≡ None → TellsMet T.origin self.old.stepper.scanner.cursor (Some result)
             self.new.stepper.scanner.cursor }
         ensures peeked { self.new.peeked ≡ None }
         ensures answered { UnlessRefused (Some result)
             (self.old.answered ≡ false → self.new.answered ≡ false) }
         ensures given { self.old.given ≡ None → KeepsRefusal result self.new.given }
-        ensures memory { WantsOnly self.new.starved
-            (Took (record { events = R.taken recv.old; places = R.spans recv.old })
-            (record { events = R.taken recv.new; places = R.spans recv.new }))
-            (Some result) }
+        ensures memory { WantsOnly self.new.starved (TookBy R.taken R.spans recv.old recv.new) (Some result) }
         ensures options { self.new.stepper.scanner.options ≡ self.old.stepper.scanner.options }
         ensures renumbered { self.new.stepper.renumbered ≡ self.old.stepper.renumbered }
         ensures moves { MovesUnless T.left T.origin (Some result) self.old.stepper.scanner.cursor
@@ -139,27 +120,19 @@ impl<'input, T: BorrowedInput<'input>> Parser<'input, T> {
     ) -> Result<(), TryLoadError<R::Error>>
         ensures known { (m : StepState) → StandsAt T.unread self.old m
             → Tries T.unread T.origin self.old.stepper.scanner.options multi m
-            (Took (record { events = R.taken recv.old; places = R.spans recv.old })
-            (record { events = R.taken recv.new; places = R.spans recv.new })) self.new result }
-        ensures calls { (c : Calls) → ReachedByCalls self.old.stepper.scanner.options c → IsOpen c
-            → ParserIn T.unread self.old c
-            → CallsLeave T.unread T.origin self.old.stepper.scanner.options multi
-            (Took (record { events = R.taken recv.old; places = R.spans recv.old })
-            (record { events = R.taken recv.new; places = R.spans recv.new }))
-            (scanned result) self.new c }
+            (TookBy R.taken R.spans recv.old recv.new) self.new result }
+        ensures calls { ForOpen T.unread self.old (CallsLeave T.unread T.origin self.old.stepper.scanner.options multi
+            (TookBy R.taken R.spans recv.old recv.new) (scanned result) self.new) }
         ensures again { IfSome self.old.given (λ e. ScansAgain e result × (recv.new ≡ recv.old)
             × (self.new ≡ self.old)) }
         ensures source { IfUnseen self.old.peeked (TellsError T.origin self.old.stepper (scanned result)
             self.new.stepper.scanner.cursor) }
         ensures peeked { self.new.peeked ≡ None }
-        ensures answered { (c : Calls) → ReachedByCalls self.old.stepper.scanner.options c → IsOpen c
-            → ParserIn T.unread self.old c → UnlessRefused (scanned result) (self.new.answered ≡ false) }
+        ensures answered { ForOpen T.unread self.old (λ c. UnlessRefused (scanned result) (self.new.answered ≡ false)) }
         ensures given { self.old.given ≡ None → KeepsScan result self.new.given }
         ensures errors { CountsErrors (R.errors recv.old) (R.errors recv.new) result }
-        ensures memory { self.old.given ≡ None → (self.old.starved ≡ false) × WantsOnly self.new.starved
-            (Took (record { events = R.taken recv.old; places = R.spans recv.old })
-            (record { events = R.taken recv.new; places = R.spans recv.new }))
-            (scanned result) }
+        ensures memory { self.old.given ≡ None → (self.old.starved ≡ false)
+            × WantsOnly self.new.starved (TookBy R.taken R.spans recv.old recv.new) (scanned result) }
         ensures options { self.new.stepper.scanner.options ≡ self.old.stepper.scanner.options }
         ensures renumbered { self.new.stepper.renumbered ≡ self.old.stepper.renumbered }
         ensures moves { MovesUnless T.left T.origin (scanned result) self.old.stepper.scanner.cursor
@@ -188,14 +161,9 @@ impl<'input, T: BorrowedInput<'input>> Parser<'input, T> {
     ) -> Result<(), TryLoadError<R::Error>>
         ensures known { (m : StepState) → StandsAt T.unread self.old m
             → TriesRest T.unread T.origin self.old.stepper.scanner.options multi m
-            (Took (record { events = R.taken recv.old; places = R.spans recv.old })
-            (record { events = R.taken recv.new; places = R.spans recv.new })) self.new result }
-        ensures calls { (c : Calls) → ReachedByCalls self.old.stepper.scanner.options c → IsOpen c
-            → ParserIn T.unread self.old c
-            → CallsLeave T.unread T.origin self.old.stepper.scanner.options multi
-            (Took (record { events = R.taken recv.old; places = R.spans recv.old })
-            (record { events = R.taken recv.new; places = R.spans recv.new }))
-            (scanned result) self.new c }
+            (TookBy R.taken R.spans recv.old recv.new) self.new result }
+        ensures calls { ForOpen T.unread self.old (CallsLeave T.unread T.origin self.old.stepper.scanner.options multi
+            (TookBy R.taken R.spans recv.old recv.new) (scanned result) self.new) }
         ensures source { self.old.peeked ≡ None → TellsMet T.origin self.old.stepper.scanner.cursor (scanned result)
             self.new.stepper.scanner.cursor }
         ensures peeked { self.new.peeked ≡ None }
@@ -203,10 +171,7 @@ impl<'input, T: BorrowedInput<'input>> Parser<'input, T> {
             (self.old.answered ≡ false → self.new.answered ≡ false) }
         ensures given { self.old.given ≡ None → KeepsScan result self.new.given }
         ensures errors { CountsErrors (R.errors recv.old) (R.errors recv.new) result }
-        ensures memory { WantsOnly self.new.starved
-            (Took (record { events = R.taken recv.old; places = R.spans recv.old })
-            (record { events = R.taken recv.new; places = R.spans recv.new }))
-            (scanned result) }
+        ensures memory { WantsOnly self.new.starved (TookBy R.taken R.spans recv.old recv.new) (scanned result) }
         ensures options { self.new.stepper.scanner.options ≡ self.old.stepper.scanner.options }
         ensures renumbered { self.new.stepper.renumbered ≡ self.old.stepper.renumbered }
         ensures moves { MovesUnless T.left T.origin (scanned result) self.old.stepper.scanner.cursor
@@ -247,13 +212,11 @@ impl<'input, T: BorrowedInput<'input>> Parser<'input, T> {
     fn first_event(&mut self) -> Result<(Event<'input>, Span), ScanError>
         ensures known { (m : StepState) → StandsAt T.unread self.old m → GivesFirst T.unread T.origin self.new
             self.old.stepper.scanner.options m result }
-        ensures calls { (c : Calls) → ReachedByCalls self.old.stepper.scanner.options c → IsOpen c
-            → ParserIn T.unread self.old c → FirstCall T.unread T.origin result self.new c }
+        ensures calls { ForOpen T.unread self.old (FirstCall T.unread T.origin result self.new) }
         ensures source { IfUnseen self.old.peeked (TellsError T.origin self.old.stepper (Some result)
             self.new.stepper.scanner.cursor) }
         ensures peeked { self.new.peeked ≡ None }
-        ensures answered { (c : Calls) → ReachedByCalls self.old.stepper.scanner.options c → IsOpen c
-            → ParserIn T.unread self.old c → UnlessRefused (Some result) (self.new.answered ≡ false) }
+        ensures answered { ForOpen T.unread self.old (λ c. UnlessRefused (Some result) (self.new.answered ≡ false)) }
         ensures given { self.old.given ≡ None → KeepsRefusal result self.new.given }
         ensures memory { IfErr result (λ e. e.kind ≡ OutOfMemory → self.new.starved ≡ true) }
         ensures options { self.new.stepper.scanner.options ≡ self.old.stepper.scanner.options }
@@ -279,7 +242,7 @@ impl<'input, T: BorrowedInput<'input>> Parser<'input, T> {
     {
         self.forget();
         self.stepper.stop();
-        self.given = Some(ScanError::from(NoMemory));
+        drop(self.given.replace(ScanError::from(NoMemory)));
         ScanError::from(NoMemory)
     }
 }

@@ -7,23 +7,24 @@ ghost use Rattle.granit_event.specs.Events.{event_kind};
 ghost use Rattle.granit_lexemes.specs.Outcome.{Fault};
 ghost use Rattle.granit_parser.specs.Holding.{FaultLacksNumber, ParserHolds, WaitsBehind, held_behind, held_room};
 ghost use Rattle.granit_parser.specs.Holding.{stays_seen};
-ghost use Rattle.granit_parser.specs.Recovering as spec;
 ghost use Rattle.granit_parser.specs.Parsing.{EndsBehind};
-ghost use Rattle.granit_parser.specs.Recovering.{AsksBy, Ends, EndsHeld, Follows, GaveUp, GivesSeen, IsClosed, IsNoted};
-ghost use Rattle.granit_parser.specs.Recovering.{IsOpen, LookShowsHeld, LooksNoMore, ParserIn, Proceeds, ProceedsHeld};
-ghost use Rattle.granit_parser.specs.Recovering.{ProceedsHeldNext, ProceedsNext, SeenBy, ShowsFirst, SkipsToAsk};
-ghost use Rattle.granit_parser.specs.Recovering.{SkipsWaiting, between_behind, over_behind, seen_in, seen_kind};
-ghost use Rattle.granit_parser.specs.Sources.{IsSourceError, TellsSource};
-ghost use Rattle.granit_parser.specs.declared.recovery.Seen.TheVariants as seens;
+ghost use Rattle.granit_parser.specs.Recovering.{AsksBy, Ends, EndsHeld, Follows, ForCalls, GaveUp, GivesSeen};
+ghost use Rattle.granit_parser.specs.Recovering.{IsClosed, IsNoted, IsOpen, LookShowsHeld, LooksNoMore, ParserIn};
+ghost use Rattle.granit_parser.specs.Recovering.{Proceeds};
+ghost use Rattle.granit_parser.specs.Recovering.{ProceedsHeld, ProceedsHeldNext, ProceedsNext, SeenBy, ShowsFirst};
+ghost use Rattle.granit_parser.specs.Recovering.{SkipsToAsk, SkipsWaiting, between_behind, over_behind, seen_in};
+ghost use Rattle.granit_parser.specs.Recovering.{stays_by};
+ghost use Rattle.granit_parser.specs.Sources.{IsSourceError, UnlessSource};
 ghost use Rattle.granit_reader.specs.Meets.{UnlessMemory};
 ghost use Rattle.granit_receivers.specs.Kept.{GivesAgain, IsKept};
-ghost use Rattle.granit_recovery.specs.Streams.{ReachedByCalls};
+ghost use Rattle.granit_seen.specs.Seeing.{seen_starts_document};
+ghost use Rattle.granit_seen.specs.declared.seen.Seen.TheVariants as seens;
 ghost use Rattle.granit_restart.specs.Calls.{Calls};
 ghost use Rattle.granit_stepper.specs.Holding.{held_follows};
 ghost use Rattle.granit_steps.specs.Steps.{StepState};
 
 use crate::parser::Parser;
-use granit_base::NoMemory;
+use granit_base::{NoMemory, Span};
 use granit_error::ScanError;
 use granit_event::Event;
 use granit_input::BorrowedInput;
@@ -32,18 +33,7 @@ use granit_recovery::{
     a_comment_takes_room_where_recovery_asks, a_look_tells_where_recovery_asks,
     an_open_call_gives_something, calls_go_by_turns, nothing_changes_behind_the_end,
 };
-
-/// What was looked at, as far as recovery asks.
-#[derive(Clone, Copy)]
-pub(crate) enum Seen {
-    /// Nothing, or a refusal.
-    Nothing,
-    Comment,
-    DocumentStart,
-    DocumentEnd,
-    StreamEnd,
-    Another,
-}
+use granit_seen::{Seen, ends, ends_stream, seen_of, starts, tells};
 
 impl<'input, T: BorrowedInput<'input>> Parser<'input, T> {
     /// Drops a document, or what is left of the open one, and tells whether another is there: behind a refusal that was
@@ -64,19 +54,16 @@ impl<'input, T: BorrowedInput<'input>> Parser<'input, T> {
     /// The error of the source, `TooManyComments` where more comments come before the next document than may be kept,
     /// and `NoMemory`. Each further call answers that again, and nothing more is given.
     pub fn proceed_next_document(&mut self) -> Result<bool, ScanError>
-        ensures known { (c : Calls) → ReachedByCalls self.old.stepper.scanner.options c → ParserIn T.unread self.old c
-            → LooksNoMore self.old c → UnlessMemory result (Proceeds T.unread result self.old self.new c
-            ⊎ TellsSource T.origin (Some result) self.new.stepper.scanner.cursor) }
-        ensures next { (c : Calls) → ReachedByCalls self.old.stepper.scanner.options c → ParserIn T.unread self.old c
-            → self.old.answered ≡ true → IsOpen c → UnlessMemory result
-            (ProceedsNext T.unread result self.old self.new c
-            ⊎ TellsSource T.origin (Some result) self.new.stepper.scanner.cursor) }
+        ensures known { ForCalls T.unread self.old (λ c. LooksNoMore self.old c
+            → UnlessSource T.origin result self.new.stepper (Proceeds T.unread result self.old self.new c)) }
+        ensures next { ForCalls T.unread self.old (λ c. self.old.answered ≡ true → IsOpen c
+            → UnlessSource T.origin result self.new.stepper (ProceedsNext T.unread result self.old self.new c)) }
         ensures held { (c : Calls) (f : Fault) → ParserHolds T.unread self.old c f → self.old.answered ≡ false
-            → c.over ≡ false → UnlessMemory result (ProceedsHeld T.unread result self.old self.new c f
-            ⊎ TellsSource T.origin (Some result) self.new.stepper.scanner.cursor) }
+            → c.over ≡ false
+            → UnlessSource T.origin result self.new.stepper (ProceedsHeld T.unread result self.old self.new c f) }
         ensures held_next { (c : Calls) (f : Fault) → ParserHolds T.unread self.old c f → self.old.answered ≡ true
-            → c.over ≡ false → UnlessMemory result (ProceedsHeldNext T.unread result self.old self.new c f
-            ⊎ TellsSource T.origin (Some result) self.new.stepper.scanner.cursor) }
+            → c.over ≡ false
+            → UnlessSource T.origin result self.new.stepper (ProceedsHeldNext T.unread result self.old self.new c f) }
         ensures answered { IfOk result (λ follows. IsNoted follows self.new) }
         ensures again { self.old.over ≡ false → self.old.stepper.failed ≡ true → self.old.stepper.refusal ≡ None
             → IfSome self.old.given (λ e. GivesAgain e result) }
@@ -102,8 +89,8 @@ impl<'input, T: BorrowedInput<'input>> Parser<'input, T> {
     fn look_first(&mut self)
         ensures calm { self.old.answered ≡ false → self.new ≡ self.old }
         ensures closed { (c : Calls) → IsClosed c → ParserIn T.unread self.old c → self.new ≡ self.old }
-        ensures next { (c : Calls) → ReachedByCalls self.old.stepper.scanner.options c → ParserIn T.unread self.old c
-            → self.old.answered ≡ true → IsOpen c → ShowsFirst T.unread self.new.peeked self.new c }
+        ensures next { ForCalls T.unread self.old (λ c. self.old.answered ≡ true → IsOpen c
+            → ShowsFirst T.unread self.new.peeked self.new c) }
         ensures holds { (c : Calls) (f : Fault) → ParserHolds T.unread self.old c f → self.old.answered ≡ true
             → c.over ≡ false → LookShowsHeld T.unread self.new.peeked self.new c f }
         ensures failed { self.old.stepper.failed ≡ true → self.new ≡ self.old }
@@ -115,7 +102,8 @@ impl<'input, T: BorrowedInput<'input>> Parser<'input, T> {
     {
         an_open_call_gives_something();
         if self.looks_first() {
-            let next = self.step_event();
+            let mut next: Option<Result<(Event<'input>, Span), ScanError>> = None;
+            self.step_event(&mut next);
             self.put_ahead(next);
         }
     }
@@ -140,16 +128,14 @@ impl<'input, T: BorrowedInput<'input>> Parser<'input, T> {
     {
         self.forget();
         self.stepper.give_up();
-        self.given = Some(kept(self.alloc, error));
+        drop(self.given.replace(kept(self.alloc, error)));
     }
 
     fn proceed(&mut self) -> Result<bool, ScanError>
-        ensures known { (c : Calls) → ReachedByCalls self.old.stepper.scanner.options c → ParserIn T.unread self.old c
-            → UnlessMemory result (Ends T.unread result self.old self.new c
-            ⊎ TellsSource T.origin (Some result) self.new.stepper.scanner.cursor) }
-        ensures held { (c : Calls) (f : Fault) → ParserHolds T.unread self.old c f
-            → c.over ≡ false → UnlessMemory result (EndsHeld T.unread result self.old self.new c f
-            ⊎ TellsSource T.origin (Some result) self.new.stepper.scanner.cursor) }
+        ensures known { ForCalls T.unread self.old (λ c.
+            UnlessSource T.origin result self.new.stepper (Ends T.unread result self.old self.new c)) }
+        ensures held { (c : Calls) (f : Fault) → ParserHolds T.unread self.old c f → c.over ≡ false
+            → UnlessSource T.origin result self.new.stepper (EndsHeld T.unread result self.old self.new c f) }
         ensures answered { IfOk result (λ follows. IsNoted follows self.new) }
         ensures again { self.old.over ≡ false → self.old.stepper.failed ≡ true → self.old.stepper.refusal ≡ None
             → IfSome self.old.given (λ e. GivesAgain e result) }
@@ -227,24 +213,28 @@ impl<'input, T: BorrowedInput<'input>> Parser<'input, T> {
             Some(error) => kept(self.alloc, error),
             None => match self.take_seen() {
                 Some(Err(error)) => error,
-                _ => ScanError::from(NoMemory),
+                Some(Ok(event)) => {
+                    drop(event);
+                    ScanError::from(NoMemory)
+                }
+                None => ScanError::from(NoMemory),
             },
         }
     }
 
     /// Drops what is to be dropped. Directly behind a document what was looked at stays, but for the start of another.
     fn skip(&mut self) -> Result<(), ScanError>
-        ensures known { (c : Calls) → ReachedByCalls self.old.stepper.scanner.options c → ParserIn T.unread self.old c
-            → c.over ≡ false → c.refusal ≡ None → (seen_in self.old.peeked ≡ seens.StreamEnd → ⊥)
-            → OnOk result (SkipsToAsk T.unread self.old.stepper.scanner.cursor (is_some self.old.peeked) self.new c) }
+        ensures known { ForCalls T.unread self.old (λ c. c.over ≡ false → c.refusal ≡ None
+            → (seen_in self.old.peeked ≡ seens.StreamEnd → ⊥) → OnOk result
+            (SkipsToAsk T.unread self.old.stepper.scanner.cursor (is_some self.old.peeked) self.new c)) }
         ensures held { (c : Calls) (f : Fault) → ParserHolds T.unread self.old c f → c.over ≡ false
             → (seen_in self.old.peeked ≡ seens.StreamEnd → ⊥) → OnOk result
             (SkipsWaiting T.unread self.old.stepper.scanner.cursor (is_some self.old.peeked) f
-            (held_behind (spec.stays_by self.old.between self.old.peeked) f c.steps) self.new
+            (held_behind (stays_by self.old.between self.old.peeked) f c.steps) self.new
             ⊎ FaultLacksNumber self.old.stepper.renumbered self.old.stepper.scanner.options c f) }
         ensures looked { self.old.stepper.failed ≡ false
             → OnOk result (self.new.peeked
-            ≡ stays_seen (spec.stays_by self.old.between self.old.peeked) self.old.peeked) }
+            ≡ stays_seen (stays_by self.old.between self.old.peeked) self.old.peeked) }
         ensures memory { IfErr result (λ e. e.kind ≡ OutOfMemory) }
         ensures going { self.new.over ≡ self.old.over }
         ensures options { self.new.stepper.scanner.options ≡ self.old.stepper.scanner.options }
@@ -271,7 +261,7 @@ impl<'input, T: BorrowedInput<'input>> Parser<'input, T> {
 
     /// Whether nothing is to be dropped.
     fn stays(&self, seen: Seen) -> bool
-        ensures { result ≡ (self.now.between && not (spec.seen_starts_document seen)) }
+        ensures { result ≡ (self.now.between && not (seen_starts_document seen)) }
     {
         self.between && !starts(seen)
     }
@@ -325,44 +315,4 @@ impl<'input, T: BorrowedInput<'input>> Parser<'input, T> {
             _ => {}
         }
     }
-}
-
-fn seen_of(event: &Event<'_>) -> Seen
-    ensures { result ≡ seen_kind (event_kind event.now) }
-{
-    match event {
-        Event::Comment(_, _) => Seen::Comment,
-        Event::DocumentStart(_, _) => Seen::DocumentStart,
-        Event::DocumentEnd => Seen::DocumentEnd,
-        Event::StreamEnd => Seen::StreamEnd,
-        _ => Seen::Another,
-    }
-}
-
-fn starts(seen: Seen) -> bool
-    ensures { result ≡ spec.seen_starts_document seen }
-{
-    matches!(seen, Seen::DocumentStart)
-}
-
-fn ends(seen: Seen) -> bool
-    ensures { result ≡ spec.seen_ends_document seen }
-{
-    matches!(seen, Seen::DocumentEnd)
-}
-
-fn ends_stream(seen: Seen) -> bool
-    ensures { result ≡ spec.ends_stream seen }
-{
-    matches!(seen, Seen::StreamEnd)
-}
-
-/// Whether what was looked at tells that another document is there.
-fn tells(seen: Seen) -> bool
-    ensures { result ≡ spec.seen_tells_document seen }
-{
-    matches!(
-        seen,
-        Seen::DocumentStart | Seen::DocumentEnd | Seen::StreamEnd | Seen::Another
-    )
 }

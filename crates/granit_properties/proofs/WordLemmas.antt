@@ -6,9 +6,9 @@ use Rattle.granit_base.specs.Classes.{is_anchor_char, is_alpha, is_yaml_non_spac
 use Rattle.granit_base.specs.Classes.{is_break, is_word_char, is_digit}
 use Rattle.granit_base.specs.Place.{Unread, first}
 use Rattle.granit_base.specs.Written.{Written}
-use Rattle.granit_input.specs.Runs.{run_length, starts}
-use Rattle.granit_input.specs.Unread.{past_count}
-use Rattle.granit_input.proofs.RunLemmas.{run_within}
+use Rattle.granit_runs.specs.Runs.{run_length, starts}
+use Rattle.granit_runs.specs.Unread.{past_count}
+use Rattle.granit_runs.proofs.RunLemmas.{run_within}
 use Rattle.granit_input.proofs.UnreadLemmas.{past_text}
 use Rattle.granit_lexemes.specs.Basics.{as_spelled, count_up_to, text_up_to}
 use Rattle.granit_lexemes.specs.Here.{Here, text_len, next_char, step, past}

@@ -137,49 +137,36 @@ fn sort_of(in_flow: bool, adjacent: bool, c: char, next: char) -> PlacedSort
     ensures { placed_view result ≡ spec.sort_of in_flow adjacent c next }
 {
     if c == '[' {
-        return PlacedSort::OpenSign(Bracket::Square);
+        PlacedSort::OpenSign(Bracket::Square)
+    } else if c == '{' {
+        PlacedSort::OpenSign(Bracket::Curly)
+    } else if c == ']' {
+        PlacedSort::CloseSign(Bracket::Square)
+    } else if c == '}' {
+        PlacedSort::CloseSign(Bracket::Curly)
+    } else if c == ',' {
+        PlacedSort::CommaSign
+    } else if c == '-' && is_blank_or_breakz(next) {
+        PlacedSort::DashSign
+    } else if c == '?' && is_blank_or_breakz(next) {
+        PlacedSort::QuestionSign
+    } else if c == ':' && (is_blank_or_breakz(next) || in_flow && (is_flow(next) || adjacent)) {
+        PlacedSort::ColonSign
+    } else if c == '*' {
+        PlacedSort::AliasSign
+    } else if c == '&' {
+        PlacedSort::AnchorSign
+    } else if c == '!' {
+        PlacedSort::TagSign
+    } else if (c == '|' || c == '>') && !in_flow {
+        PlacedSort::BlockSign(c == '|')
+    } else if c == '\'' || c == '"' {
+        PlacedSort::QuoteSign(c == '\'')
+    } else if is_bom(c) {
+        PlacedSort::StrayMark
+    } else if (c == '@' || c == '`') || c == '%' || (c == '|' || c == '>') {
+        PlacedSort::NoSign
+    } else {
+        PlacedSort::PlainSign
     }
-    if c == '{' {
-        return PlacedSort::OpenSign(Bracket::Curly);
-    }
-    if c == ']' {
-        return PlacedSort::CloseSign(Bracket::Square);
-    }
-    if c == '}' {
-        return PlacedSort::CloseSign(Bracket::Curly);
-    }
-    if c == ',' {
-        return PlacedSort::CommaSign;
-    }
-    if c == '-' && is_blank_or_breakz(next) {
-        return PlacedSort::DashSign;
-    }
-    if c == '?' && is_blank_or_breakz(next) {
-        return PlacedSort::QuestionSign;
-    }
-    if c == ':' && (is_blank_or_breakz(next) || in_flow && (is_flow(next) || adjacent)) {
-        return PlacedSort::ColonSign;
-    }
-    if c == '*' {
-        return PlacedSort::AliasSign;
-    }
-    if c == '&' {
-        return PlacedSort::AnchorSign;
-    }
-    if c == '!' {
-        return PlacedSort::TagSign;
-    }
-    if (c == '|' || c == '>') && !in_flow {
-        return PlacedSort::BlockSign(c == '|');
-    }
-    if c == '\'' || c == '"' {
-        return PlacedSort::QuoteSign(c == '\'');
-    }
-    if is_bom(c) {
-        return PlacedSort::StrayMark;
-    }
-    if (c == '@' || c == '`') || c == '%' || (c == '|' || c == '>') {
-        return PlacedSort::NoSign;
-    }
-    PlacedSort::PlainSign
 }

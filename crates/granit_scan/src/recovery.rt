@@ -97,10 +97,8 @@ impl<'input, T: BorrowedInput<'input>> Scanner<'input, T> {
         ensures keeps { ScannerKeeps self.old self.new }
         ensures moves { Moves T.unread T.left T.origin self.old.items.cursor self.new.items.cursor }
     {
-        if self.wants_memory {
-            return Err(ScanError::from(NoMemory));
-        }
-        if self.items.is_lost() {
+        if self.wants_memory || self.items.is_lost() {
+            drop(token);
             return Err(ScanError::from(NoMemory));
         }
         let mark: Option<Box<Lexeme<'input>>> = self.writer.take_mark(self.alloc, token)?;

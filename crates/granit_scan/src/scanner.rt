@@ -11,7 +11,7 @@ ghost use Rattle.granit_error.specs.OptionsData.{default_options};
 ghost use Rattle.granit_error.specs.OptionsView.{options_of};
 ghost use Rattle.granit_error.specs.Refused.{refused_kind};
 ghost use Rattle.granit_input.specs.Origin.{error_given, Gave};
-ghost use Rattle.granit_input.specs.White.{holds};
+ghost use Rattle.granit_runs.specs.White.{holds};
 ghost use Rattle.granit_lexemes.specs.Here.{Here, first_place, mark_of};
 ghost use Rattle.granit_machine.specs.Reader.{LexState};
 ghost use Rattle.granit_queue.specs.QueueViews.{queued_view};

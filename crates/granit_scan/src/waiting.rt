@@ -1,4 +1,4 @@
-//! The tokens that are made and not yet given.
+//! The tokens that are made and not yet given. One goes by a call of `drop`: in place, proofs write it out a kind.
 ghost use Rattle.std.specs.Prelude.{◌≡◌, ◌==◌, [], ◌∷◌, ◌++◌, length, replicate, drop, slice_get, Some, IfOk, OnOk};
 ghost use Rattle.std.specs.Option.{option_map};
 ghost use Rattle.granit_items.specs.ItemViews.{boxed_lexeme, boxed_view, kind_view, note_view};
@@ -112,12 +112,15 @@ impl<'input> Waiting<'input> {
         ensures { IfOk result (λ m. option_map boxed_lexeme m
             ≡ marks.mark_in (marks.handed (option_map plain_token handed.entry) ++ self.old)) }
     {
-        match handed {
+        let Some(token) = handed else {
+            return self.pop_mark(alloc);
+        };
+        let kind = mark_of(&token);
+        let span = token.span();
+        drop(token);
+        match kind {
             None => self.pop_mark(alloc),
-            Some(token) => match mark_of(&token) {
-                None => self.pop_mark(alloc),
-                Some(kind) => self.with_note(alloc, kind, token.span()),
-            },
+            Some(kind) => self.with_note(alloc, kind, span),
         }
     }
 
@@ -128,8 +131,11 @@ impl<'input> Waiting<'input> {
             match self.pop() {
                 None => return Ok(None),
                 Some(token) => {
-                    if let Some(kind) = mark_of(&token) {
-                        return self.with_note(alloc, kind, token.span());
+                    let kind = mark_of(&token);
+                    let span = token.span();
+                    drop(token);
+                    if let Some(kind) = kind {
+                        return self.with_note(alloc, kind, span);
                     }
                 }
             }

@@ -293,10 +293,9 @@ impl<'input> Writer<'input> {
             return Err(NoMemory);
         }
         let mut fault: Option<ScanError> = None;
-        match self.layouts.enter(options, mark.col(), mark, &mut fault) {
-            Ok(()) => Ok(()),
-            Err(_) => Err(NoMemory),
-        }
+        self.layouts
+            .enter(options, mark.col(), mark, &mut fault)
+            .or(Err(NoMemory))
     }
 
     /// A lexeme's own token, and that of the comment behind it, which are taken out of it.

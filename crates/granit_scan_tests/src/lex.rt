@@ -5,7 +5,8 @@ use granit_base::{NoMemory, ScalarStyle, is_blank_or_breakz};
 use granit_cursor::{Cursor, Layout, Lexed, Token, TokenType};
 use granit_error::ScanError;
 use granit_input::{BorrowedInput, Input, StrInput};
-use granit_lex::{scan_plain_scalar, scan_quoted_scalar};
+use granit_plain::scan_plain_scalar;
+use granit_quoted::scan_quoted_scalar;
 use std::alloc::Global;
 
 /// Outside flow, in a block collection in column 0, where no comments are asked for.

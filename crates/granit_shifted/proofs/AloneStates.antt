@@ -18,7 +18,7 @@ use Rattle.granit_shifted.proofs.LineGaps.{Seen, here_at, laid_at}
 use Rattle.granit_shifted.proofs.MovedEvents.{gives_moved}
 use Rattle.granit_shifted.proofs.Outer.{fresh_at}
 use Rattle.granit_shifted.proofs.OuterSteps.{reading_at}
-use Rattle.granit_shifted.specs.Alone.{TellsAlone, handles_before, offset_or_none, shift_from, shift_to}
+use Rattle.granit_shifted.specs.Alone.{TellsMoved, handles_before, offset_or_none, shift_from, shift_to}
 use Rattle.granit_shifted.specs.Declaring.{kept_start}
 use Rattle.granit_shifted.specs.Moved.{moved_steps}
 use Rattle.granit_shifted.specs.Shift.{KeptFits, moved_here, moved_kept}
@@ -103,10 +103,10 @@ module _ (o : OptionsData) where
       subst (λ (s : StepState). GivesEvents o s es f) same more
 
   pub own_gives : (lexemes : ℕ) (h : Here) (p : ParserState) → 1 ≤ h.place.line → KeptFits o (shift_to lexemes h p)
-      → TellsAlone o h.unread.text (shift_to lexemes h p) (own_state lexemes h p)
+      → TellsMoved o h.unread.text (shift_to lexemes h p) (own_state lexemes h p)
   own_gives lexemes h p some fits =
       let shift = shift_to lexemes h p in
-      subst (TellsAlone o h.unread.text shift) (own_moved lexemes h p some)
+      subst (TellsMoved o h.unread.text shift) (own_moved lexemes h p some)
       (gives_moved shift o fits (behind_start h.unread.text _ _ _ (steps_tell o h.unread.text)))
 
   -- the same call gives the same

@@ -6,7 +6,7 @@ use Rattle.granit_lexemes.specs.PlainEvent.{PlainEvent}
 use Rattle.granit_steps.proofs.StepLaws.{run_told, steps_tell}
 use Rattle.granit_steps.specs.Steps.{StepState, next_event}
 use Rattle.granit_steps.specs.Told.{GivesEvents, gives_end, gives_fault, gives_event, told_of}
-use Rattle.granit_shifted.specs.Alone.{TellsAlone, ToldAlone, behind_first}
+use Rattle.granit_shifted.specs.Alone.{TellsMoved, ToldAlone, behind_first}
 use Rattle.granit_shifted.specs.Shift.{Shift}
 
 module _ (o : OptionsData) where
@@ -51,7 +51,7 @@ module _ (o : OptionsData) where
       (ap₂ (λ (e : PlainEvent) (es : List PlainEvent). e ∷ es) event later.0, later.1)
 
   pub told_alone : (text : List ℕ) (shift : Shift) (s : StepState) (es : List PlainEvent) (f : Option Fault)
-      → TellsAlone o text shift s → GivesEvents o s es f → ToldAlone o text shift es f
+      → TellsMoved o text shift s → GivesEvents o s es f → ToldAlone o text shift es f
   told_alone text shift s es f tells gives =
       let same = told_once s es _ f _ gives tells in
       record {

@@ -41,8 +41,8 @@ behind_first [] = []
 behind_first (e ∷ es) = es
 
 -- from a state on all is told that a text tells alone, but for the start of the stream, moved
-abbrev pub TellsAlone : OptionsData → List ℕ → Shift → StepState → Type 0
-TellsAlone o text shift s =
+abbrev pub TellsMoved : OptionsData → List ℕ → Shift → StepState → Type 0
+TellsMoved o text shift s =
     GivesEvents o s (moved_events shift (behind_first (told_of o text).0)) (moved_fault_of shift (told_of o text).1)
 
 -- from a state on the end of the stream is told at a place, and nothing else
@@ -69,7 +69,7 @@ shift_from lexemes h p = record (shift_to lexemes h p) { kept = None }
 -- From a state on all is told that the text at a place tells, where so many lexemes and a parser's anchors are before
 -- it, moved there: what it tells alone, or where handles stay, what it tells behind a text that declares them anew.
 pub data TellsItsText (o : OptionsData) (lexemes : ℕ) (h : Here) (p : ParserState) (s : StepState) : Type 0 where
-  alone_told : NoneStays o p → TellsAlone o h.unread.text (shift_to lexemes h p) s → TellsItsText o lexemes h p s
+  alone_told : NoneStays o p → TellsMoved o h.unread.text (shift_to lexemes h p) s → TellsItsText o lexemes h p s
   anew_told : {es : List PlainEvent} {f : Option Fault} → HandlesStay o p → TellsAnew o p.kept h.unread.text es f
       → GivesEvents o s (moved_events (shift_from lexemes h p) es) (moved_fault_of (shift_from lexemes h p) f)
       → TellsItsText o lexemes h p s

@@ -6,7 +6,7 @@ ghost use Rattle.granit_lexemes.specs.Outcome.{Fault};
 ghost use Rattle.granit_lexemes.specs.PlainEvent.{PlainEvent};
 ghost use Rattle.granit_restart.specs.Boundary.{next_boundary};
 ghost use Rattle.granit_restart.specs.Restart.{at_boundary, behind_fault, cursor_at, read_boundary};
-ghost use Rattle.granit_shifted.specs.Alone.{StaysDeclared, TellsAlone, TellsBehind, ToldAlone};
+ghost use Rattle.granit_shifted.specs.Alone.{StaysDeclared, TellsMoved, TellsBehind, ToldAlone};
 ghost use Rattle.granit_shifted.specs.Declaring.{DeclaresAnew, kept_start, TellsAnew};
 ghost use Rattle.granit_shifted.specs.Led.{Led, TellsFound};
 ghost use Rattle.granit_shifted.specs.Shift.{Shift};
@@ -35,7 +35,7 @@ pub fn the_text_behind_a_fault_is_read_as_its_own()
 /// Nothing else is told there: what calls give is what the text gives alone, moved, and a run tells of it.
 pub fn what_is_told_behind_a_boundary_is_what_its_text_tells()
     ensures { (o : OptionsData) (text : List ℕ) (shift : Shift) (s : StepState) (es : List PlainEvent)
-        (f : Option Fault) → TellsAlone o text shift s → GivesEvents o s es f → ToldAlone o text shift es f }
+        (f : Option Fault) → TellsMoved o text shift s → GivesEvents o s es f → ToldAlone o text shift es f }
 {}
 
 /// Where handles stay, what calls give of a text is what it tells behind one that declares them anew, with its places

@@ -28,8 +28,8 @@ use Rattle.granit_replay.specs.Replaying.{raised_over}
 use Rattle.granit_stack_laws.proofs.FreshLemmas.{below_more}
 use Rattle.granit_stack_laws.specs.Fresh.{IdBelow, IdsBelow, Numbering}
 use Rattle.granit_stack_laws.specs.Life.{IsNumbered, IsUnread, UnreadAny}
-use Rattle.granit_stepper.specs.Refusals.{recounted}
-use Rattle.granit_stepper.specs.declared.refusal.Refusal.{Refusal}
+use Rattle.granit_refusals.specs.BeforeTurn.{recounted}
+use Rattle.granit_refusals.specs.declared.refusal.Refusal.{Refusal}
 use Rattle.granit_stepper.specs.Stepping.{Stepping, StandsIn}
 use Rattle.granit_steps.specs.Steps.{StepState, next_event}
 

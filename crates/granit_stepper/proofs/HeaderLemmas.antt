@@ -18,10 +18,11 @@ use Rattle.granit_restart.specs.Header.{is_fresh, is_start_expected, last_is_dir
 use Rattle.granit_restart.specs.Skipping as skipping
 use Rattle.granit_scanner.specs.Scans.{Known, may_front_go, unsettled}
 use Rattle.granit_scanner.proofs.KnownLemmas.{ends_both}
-use Rattle.granit_stepper.specs.Refusals as spec
-use Rattle.granit_stepper.specs.Refusals.{FailedToRead, StandsRefused, TookFront, directive_in, is_true, or_before}
+use Rattle.granit_refusals.specs.BeforeTurn as spec
+use Rattle.granit_refusals.specs.BeforeTurn.{directive_in, is_true, or_before}
+use Rattle.granit_stepper.specs.Refusals.{FailedToRead, StandsRefused, TookFront}
 use Rattle.granit_stepper.specs.Stepping.{Stepping}
-use Rattle.granit_stepper.specs.declared.refusal.Refusal.{Refusal}
+use Rattle.granit_refusals.specs.declared.refusal.Refusal.{Refusal}
 use Rattle.granit_steps.specs.Steps.{StepState}
 
 -- ---- an item

@@ -17,10 +17,11 @@ use Rattle.granit_machine.specs.Parser.{take_item}
 use Rattle.granit_restart.specs.Header.{is_start_expected}
 use Rattle.granit_stepper.specs.Numbers.{GetsLast, IsAnchorStart, IsNumberless, UnlessNumberless, anchor_start}
 use Rattle.granit_stepper.specs.Numbers.{is_anchor, start_if}
-use Rattle.granit_stepper.specs.Refusals.{IsBeforeItem, RefusedItem}
+use Rattle.granit_refusals.specs.BeforeTurn.{IsBeforeItem}
+use Rattle.granit_stepper.specs.Refusals.{RefusedItem}
 use Rattle.granit_stepper.specs.Stepping.{StandsIn, Stepping, feed_item, turn_view}
-use Rattle.granit_stepper.specs.declared.refusal.Refusal.{Refusal}
-use Rattle.granit_stepper.proofs.RefusalLemmas.{before_alike}
+use Rattle.granit_refusals.specs.declared.refusal.Refusal.{Refusal}
+use Rattle.granit_refusals.proofs.FrontLemmas.{before_alike}
 use Rattle.granit_stepper.proofs.StateLemmas.{feed_fails, feeds, feeds_last}
 use Rattle.granit_steps.specs.Steps.{StepState}
 

@@ -9,11 +9,10 @@ use Rattle.granit_cursor.specs.Reading.{CameOn, Reading, Stands}
 use Rattle.granit_error.specs.FaultKind.{FaultKind, NoMemory}
 use Rattle.granit_error.specs.OptionsData.{OptionsData}
 use Rattle.granit_error.specs.Refused.{Refused}
-use Rattle.granit_items.specs.ItemViews.{boxed_lexeme}
 use Rattle.granit_items.specs.declared.item.Lexeme as code
 use Rattle.granit_lexemes.specs.Here.{Here}
 use Rattle.granit_lexemes.specs.Lexeme as lexemes
-use Rattle.granit_lexemes.specs.Lexeme.{Item, Lexeme, LexemeKind, OfComment, OfLexeme}
+use Rattle.granit_lexemes.specs.Lexeme.{Lexeme, LexemeKind}
 use Rattle.granit_lexemes.specs.Onward.{Onward, there}
 use Rattle.granit_lexemes.specs.PlainEvent.{PlainEvent}
 use Rattle.granit_machine.specs.Frames.{ParserState, parser_start}
@@ -24,7 +23,7 @@ use Rattle.granit_machine.specs.Reader.{LexState}
 use Rattle.granit_restart.proofs.MarkLaws.{what_goes_holds}
 use Rattle.granit_restart.specs.Boundary.{AtStart, AtTextEnd, Boundary, PastEnd, next_boundary}
 use Rattle.granit_restart.specs.Restart.{at_boundary, at_found, at_lexeme, behind_fault, behind_fault_at, boundary_of}
-use Rattle.granit_restart.specs.Restart.{cursor_at, dropped, is_boundary, lexeme_or, read_boundary}
+use Rattle.granit_restart.specs.Restart.{cursor_at, dropped, read_boundary}
 use Rattle.granit_scanner.specs.Restarts.{Restarts, front_items}
 use Rattle.granit_restart.specs.Skipping.{with_pending}
 use Rattle.granit_restart.specs.Turned.{Turned}
@@ -33,11 +32,12 @@ use Rattle.granit_scanner.proofs.KnownLemmas.{goes_kept}
 use Rattle.granit_stepper.specs.Recovering.{RestartsIn}
 use Rattle.granit_stepper.specs.Numbers.{GetsLast}
 use Rattle.granit_stepper.specs.Offset.{with_offset}
-use Rattle.granit_stepper.specs.Refusals.{FailedToRead, FailsIn, HoldsRefusal, IsBeforeItem, IsBeforeRead, RefusedIn}
-use Rattle.granit_stepper.specs.Refusals.{RefusedItem, RefusesIn, RefusesItem, StandsRefused, TookFront, mark_if}
-use Rattle.granit_stepper.specs.Refusals.{mark_of_item, recounted}
+use Rattle.granit_refusals.proofs.FrontLemmas.{front_reads}
+use Rattle.granit_refusals.specs.BeforeTurn.{IsBeforeRead, recounted}
+use Rattle.granit_stepper.specs.Refusals.{FailedToRead, FailsIn, HoldsRefusal, RefusedIn}
+use Rattle.granit_stepper.specs.Refusals.{RefusedItem, RefusesIn, RefusesItem, StandsRefused, TookFront}
 use Rattle.granit_stepper.specs.Stepping.{StandsIn, Stepping, feed_item, first_events}
-use Rattle.granit_stepper.specs.declared.refusal.Refusal.{Refusal}
+use Rattle.granit_refusals.specs.declared.refusal.Refusal.{Refusal}
 use Rattle.granit_stepper.proofs.NumberLemmas.{last_turn}
 use Rattle.granit_stepper.proofs.TurnLemmas.{turn_feeds, turn_reads}
 use Rattle.granit_steps.specs.Steps.{StepState, line_behind, may_go, read_more, read_unless, step_turn}
@@ -101,40 +101,6 @@ module _ {I : Type 0} (unread : I → Unread → Type 0) (s : Scanning I) (l : L
   behind_by (Some f) h i k goes law =
       law ∙ ap (read_boundary h) (goes_kept l f i q k.0 k.1 goes)
       ∙ ap (λ (w : List FlaggedItem). boundary_of h i.item (read_boundary h w)) k.2
-
--- ---- the item that was taken
-
-same_some : (x y : Lexeme) → Some x ≡ Some y → x ≡ y
-same_some x y e = cc
-
-module _ (h : Here) (q : List FlaggedItem) where
-  front_is : (front : Option (Box code.Lexeme)) (l : Lexeme) → option_map boxed_lexeme front ≡ Some l
-      → read_boundary h (front_items front ++ q) ≡ boundary_of h (OfLexeme l) (read_boundary h q)
-  front_is None l is = absurd (cc)
-  front_is (Some x) l is =
-      ap (λ (y : Lexeme). boundary_of h (OfLexeme y) (read_boundary h q)) (same_some (boxed_lexeme x) l is)
-
-  none_front : (front : Option (Box code.Lexeme)) → option_map boxed_lexeme front ≡ None
-      → read_boundary h (front_items front ++ q) ≡ read_boundary h q
-  none_front None is = refl
-  none_front (Some x) is = absurd (cc)
-
-  front_by : (front : Option (Box code.Lexeme)) (l : Lexeme) (kind : LexemeKind) → l.kind ≡ kind
-      → option_map boxed_lexeme front ≡ mark_if kind l
-      → read_boundary h (front_items front ++ q) ≡ lexeme_or (is_boundary h kind l) l (read_boundary h q)
-  front_by front l lexemes.DocumentStart named is =
-      front_is front l is ∙ ap (λ (k : LexemeKind). lexeme_or (is_boundary h k l) l (read_boundary h q)) named
-  front_by front l lexemes.DocumentEnd named is =
-      front_is front l is ∙ ap (λ (k : LexemeKind). lexeme_or (is_boundary h k l) l (read_boundary h q)) named
-  front_by front l lexemes.StreamEnd named is =
-      front_is front l is ∙ ap (λ (k : LexemeKind). lexeme_or (is_boundary h k l) l (read_boundary h q)) named
-  front_by front l kind named is = none_front front is
-
-  -- a mark that was taken stands before what waits
-  pub front_reads : (front : Option (Box code.Lexeme)) (i : Item) → option_map boxed_lexeme front ≡ mark_of_item i
-      → read_boundary h (front_items front ++ q) ≡ boundary_of h i (read_boundary h q)
-  front_reads front (OfLexeme l) is = front_by front l l.kind refl is
-  front_reads front (OfComment c) is = none_front front is
 
 -- ---- where reading goes on
 
@@ -257,20 +223,6 @@ restarts_behind unread s m e refused r is o turned found new starts goes parser 
     first going none_ahead
 
 -- ---- where a turn is refused
-
--- the same parser but for what waits
-pub before_alike : (p q : ParserState) (i : Item) (r : Refusal) → p ≡ record q { given = [] } → IsBeforeItem q i r
-    → IsBeforeItem p i r
-before_alike p q i r same b = (
-  (
-    b.0.0 ∙ sym (ap (λ (x : ParserState). x.stage) same),
-    b.0.1 ∙ sym (ap (λ (x : ParserState). x.last_end) same),
-    b.0.2 ∙ sym (ap (λ (x : ParserState). x.count) same),
-  ),
-  b.1,
-  b.2,
-  b.3,
-)
 
 module _ {I : Type 0} (unread : I → Unread → Type 0) (s : Stepping I) (m : StepState) (e : Refused)
     (none : m.pending ≡ []) where

@@ -1,5 +1,6 @@
 -- What contracts see of a stepper, and in which state of the machine it is known to be.
-use Rattle.std.specs.Prelude.{◌≡◌, ◌<◌, ◌-◌, ◌^◌, ℕ, Bool, true, false, List, [], ◌∷◌, ◌++◌, Option, Some, None, Ok}
+use Rattle.std.specs.Prelude.{◌≡◌, ◌<◌, ◌-◌, ◌^◌, ℕ, Bool, true, false, List, [], ◌∷◌, ◌++◌, Option, Some, None}
+use Rattle.std.specs.Prelude.{Result, Ok, Err}
 use Rattle.granit_base.specs.Place.{Mark, Unread}
 use Rattle.granit_error.specs.OptionsData.{OptionsData}
 use Rattle.granit_error.specs.Refused.{Refused}
@@ -11,7 +12,7 @@ use Rattle.granit_machine.specs.Lexing.{FlaggedItem}
 use Rattle.granit_machine.specs.Parser.{feed}
 use Rattle.granit_scanner.specs.Scans as scans
 use Rattle.granit_scanner.specs.Scans.{Scanning, Known, line_asked, may_front_go}
-use Rattle.granit_stepper.specs.declared.refusal.Refusal.{Refusal}
+use Rattle.granit_refusals.specs.declared.refusal.Refusal.{Refusal}
 use Rattle.granit_steps.specs.Steps.{StepState, Turn, line_behind, may_go, with_fed}
 
 -- a scanner, the parser's state, where the stream starts if that isn't told yet, whether a call failed, whether the
@@ -51,6 +52,14 @@ pub record Keeps {I : Type 0} (old new : Stepping I) : Type 0 where
   pub failed : new.failed ≡ old.failed
   pub renumbered : new.renumbered ≡ old.renumbered
   pub options : new.scanner.options ≡ old.scanner.options
+
+-- ---- what is given
+
+-- an event, why there is none, or nothing more, as it stands in a place for the next one: the answer of a step
+abbrev pub answer_in : {X : Type 0} → Option (Result X Refused) → Result (Option X) Refused
+answer_in None = Ok None
+answer_in (Some (Ok x)) = Ok (Some x)
+answer_in (Some (Err e)) = Err e
 
 -- ---- turns
 

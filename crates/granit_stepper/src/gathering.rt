@@ -116,6 +116,41 @@ impl<'input, T: BorrowedInput<'input>> Stepper<'input, T> {
         Ok(())
     }
 
+    /// All that waits, and the start of the stream, if it wasn't told, waits in the room of a list.
+    ///
+    /// # Errors
+    ///
+    /// `NoMemory` alone.
+    pub fn wait_in(
+        &mut self,
+        alloc: Global,
+        room: Vec<(Event<'input>, Span)>,
+    ) -> Result<(), NoMemory>
+        ensures known { (m : StepState) → StandsIn T.unread self.old m → OnOk result (StandsIn T.unread self.new m) }
+        ensures first { OnOk result (self.new.first ≡ None) }
+        ensures failed { self.new.failed ≡ self.old.failed }
+        ensures scanner { self.new.scanner ≡ self.old.scanner }
+        ensures renumbered { self.new.renumbered ≡ self.old.renumbered }
+    {
+        self.tell_start(alloc)?;
+        self.put_given(room)?;
+        Ok(())
+    }
+
+    /// What was given and not taken waits in the room of a list.
+    fn put_given(&mut self, room: Vec<(Event<'input>, Span)>) -> Result<(), NoMemory>
+        ensures same { OnOk result (self.new ≡ self.old) }
+        ensures first { self.new.first ≡ self.old.first }
+        ensures failed { self.new.failed ≡ self.old.failed }
+        ensures scanner { self.new.scanner ≡ self.old.scanner }
+        ensures renumbered { self.new.renumbered ≡ self.old.renumbered }
+    {
+        let mut room = room;
+        room.clear();
+        self.parser.put_before(VecDeque::from(room))?;
+        Ok(())
+    }
+
     /// The start of the stream waits as any other event, if it wasn't told.
     fn tell_start(&mut self, alloc: Global) -> Result<(), NoMemory>
         ensures known { (m : StepState) → StandsIn T.unread self.old m → OnOk result (StandsIn T.unread self.new m) }

@@ -4,7 +4,6 @@
 mod gathering;
 mod offset;
 mod recovery;
-mod refusal;
 mod stepper;
 
 pub use stepper::Stepper;

@@ -4,7 +4,8 @@ ghost use Rattle.std.specs.Option.{option_map};
 ghost use Rattle.granit_base.specs.Place.{Unread};
 ghost use Rattle.granit_error.specs.Refused.{Refused};
 ghost use Rattle.granit_stepper.specs.Offset.{with_offset};
-ghost use Rattle.granit_stepper.specs.Refusals.{StandsRefused, recounted};
+ghost use Rattle.granit_refusals.specs.BeforeTurn.{recounted};
+ghost use Rattle.granit_stepper.specs.Refusals.{StandsRefused};
 ghost use Rattle.granit_stepper.specs.Stepping.{StandsIn};
 ghost use Rattle.granit_steps.specs.Steps.{StepState};
 

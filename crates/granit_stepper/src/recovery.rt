@@ -21,12 +21,12 @@ ghost use Rattle.granit_stepper.specs.Stepping as spec;
 ghost use Rattle.granit_stepper.specs.Stepping.{Keeps, StandsIn};
 ghost use Rattle.granit_steps.specs.Steps.{StepState};
 
-use crate::refusal::{Refusal, is_directives, wants_memory};
 use crate::stepper::Stepper;
 use granit_base::NoMemory;
 use granit_error::{ErrorKind, ScanError};
 use granit_event::Event;
 use granit_input::BorrowedInput;
+use granit_refusals::{Refusal, is_directives, wants_memory};
 use std::alloc::Global;
 
 /// What stands first among events.
@@ -213,12 +213,10 @@ impl<'input, T: BorrowedInput<'input>> Stepper<'input, T> {
                 Front::None => return false,
                 Front::StreamEnd => return true,
                 Front::DocumentEnd => {
-                    self.parser.pop_event();
+                    drop(self.parser.pop_event());
                     return true;
                 }
-                Front::Comment | Front::Another => {
-                    self.parser.pop_event();
-                }
+                Front::Comment | Front::Another => drop(self.parser.pop_event()),
             }
         }
     }

@@ -1,6 +1,6 @@
 //! An input that is read into events, one for each call.
 ghost use Rattle.std.specs.Prelude.{◌≡◌, ◌≤◌, ◌||◌, [], true, false, Option, None, Some, Ok, Err};
-ghost use Rattle.std.specs.Prelude.{IfErr, IfSome, is_some};
+ghost use Rattle.std.specs.Prelude.{IfErr, IfSome, drop, is_some, slice_get};
 ghost use Rattle.std.specs.Option.{option_map};
 ghost use Rattle.granit_base.specs.Place.{Unread};
 ghost use Rattle.granit_cursor.specs.Reading.{GoesOnward};
@@ -9,10 +9,12 @@ ghost use Rattle.granit_error.specs.FaultKind as faults;
 ghost use Rattle.granit_error.specs.FaultKind.{FaultKind};
 ghost use Rattle.granit_error.specs.OptionsView.{options_of};
 ghost use Rattle.granit_event.specs.Events.{plain_event};
+ghost use Rattle.granit_refusals.specs.BeforeTurn.{mark_of_item};
 ghost use Rattle.granit_refused.specs.Answered.{answered, why};
 ghost use Rattle.granit_frames.specs.Outside.{NoneWaitsOutside};
 ghost use Rattle.granit_input.specs.Origin.{error_given, Gave, Goes};
 ghost use Rattle.granit_lexemes.specs.Outcome.{Fault};
+ghost use Rattle.granit_lexemes.specs.PlainEvent.{event_on, StreamStart};
 ghost use Rattle.granit_lexemes.specs.Here.{Here, first_place, mark_of};
 ghost use Rattle.granit_items.specs.ItemViews.{item_view, kind_view};
 ghost use Rattle.granit_restart.specs.Looking.{behind_waiting, turn_ahead};
@@ -24,15 +26,13 @@ ghost use Rattle.granit_stepper.specs.Numbers as numbers;
 ghost use Rattle.granit_stepper.specs.Numbers.{GetsLast, GivesOr, IsNumberless, RefusesNumber, UnlessNumberless};
 ghost use Rattle.granit_stepper.specs.Refusals.{GivesAhead, HoldsRefusal, RefusesIn, RefusesItem, RefusesLater};
 ghost use Rattle.granit_stepper.specs.Refusals.{SettlesAhead, StandsRefused, TurnsAhead};
-ghost use Rattle.granit_stepper.specs.Refusals as refusals;
 ghost use Rattle.granit_stepper.specs.Stepping as spec;
-ghost use Rattle.granit_stepper.specs.Stepping.{Keeps, StandsIn, TakesFree};
+ghost use Rattle.granit_stepper.specs.Stepping.{answer_in, Keeps, StandsIn, TakesFree};
 ghost use Rattle.granit_stepper.specs.Waiting.{AllTaken, GivesFirstWaiting, SameButCursor, StaysAtEnd, StaysTaken};
 ghost use Rattle.granit_stepper.specs.Waiting.{StaysWaiting};
 ghost use Rattle.granit_steps.specs.Steps as steps;
 ghost use Rattle.granit_steps.specs.Steps.{StepState};
 
-use crate::refusal::{Before, Refusal, is_mark, wants_memory};
 use granit_base::{Marker, NoMemory, Span};
 use granit_error::{ErrorKind, Options, ScanError};
 use granit_event::Event;
@@ -41,6 +41,7 @@ use granit_frames::ParserState;
 use granit_input::{BorrowedInput, Input};
 use granit_items::{Item, LexemeKind, Rooms};
 use granit_queue::Queued;
+use granit_refusals::{Before, Refusal, is_mark, wants_memory};
 use granit_refused::{Refused, error_of, refuse};
 use granit_scanner::{Front, Scanner};
 use std::alloc::Global;
@@ -132,43 +133,61 @@ impl<'input, T: BorrowedInput<'input>> Stepper<'input, T> {
         self.failed = true;
     }
 
-    /// The next event, and where it stands; none behind the end of the stream, and behind an error.
+    /// The next event, and where it stands, is put in `next`, whatever stood there; none behind the end of the stream,
+    /// and behind an error.
     ///
     /// # Errors
     ///
     /// What is wrong with the input there, by the kinds of `docs/FAULTS.md`, `AnchorCountOverflow` at an anchor for
     /// which no number is left, and `NoMemory`.
-    pub fn next_event(&mut self, alloc: Global) -> Result<Option<(Event<'input>, Span)>, ScanError>
-        ensures known { (m : StepState) → StandsIn T.unread self.old m → GivesOr (option_map plain_event) result
-            (StandsIn T.unread self.new) (steps.next_event self.old.scanner.options m)
+    pub fn next_event(
+        &mut self,
+        alloc: Global,
+        next: &mut Option<Result<(Event<'input>, Span), ScanError>>,
+    )
+        ensures known { (m : StepState) → StandsIn T.unread self.old m
+            → GivesOr (option_map plain_event) (answer_in next.new) (StandsIn T.unread self.new)
+            (steps.next_event self.old.scanner.options m)
             (RefusesNumber self.old.renumbered self.old.scanner.options m) }
         ensures refused { (m : StepState) → StandsIn T.unread self.old m → Turned self.old.scanner.options m
-            → RefusesLater T.unread self.old.scanner.options result self.new m }
+            → RefusesLater T.unread self.old.scanner.options (answer_in next.new) self.new m }
         ensures ahead { (m : StepState) → HoldsRefusal T.unread self.old m
-            → GivesAhead T.unread (option_map plain_event) result self.new m }
+            → GivesAhead T.unread (option_map plain_event) (answer_in next.new) self.new m }
         ensures held { (m : StepState) (e : Fault) → HoldsFault T.unread self.old m e
-            → GivesHeld T.unread (option_map plain_event) result self.new m e }
+            → GivesHeld T.unread (option_map plain_event) (answer_in next.new) self.new m e }
         ensures first { self.old.failed ≡ false → self.new.first ≡ None }
-        ensures failed { IfErr result (λ e. self.new.failed ≡ true) }
-        ensures lost { IfErr result (λ e. e.kind ≡ faults.NoMemory → self.new.refusal ≡ None) }
-        ensures over { self.old.failed ≡ true → (result ≡ Ok None) × (self.new ≡ self.old) }
+        ensures failed { IfErr (answer_in next.new) (λ e. self.new.failed ≡ true) }
+        ensures lost { IfErr (answer_in next.new) (λ e. e.kind ≡ faults.NoMemory → self.new.refusal ≡ None) }
+        ensures over { self.old.failed ≡ true → (next.new ≡ None) × (self.new ≡ self.old) }
         ensures waiting { self.old.failed ≡ false
-            → GivesFirstWaiting (option_map plain_event) result self.old self.new }
-        ensures ended { StaysAtEnd None result self.old self.new }
+            → GivesFirstWaiting (option_map plain_event) (answer_in next.new) self.old self.new }
+        ensures ended { StaysAtEnd None (answer_in next.new) self.old self.new }
         ensures options { self.new.scanner.options ≡ self.old.scanner.options }
         ensures renumbered { self.new.renumbered ≡ self.old.renumbered }
         ensures moves { Moves T.unread T.left T.origin self.old.scanner.cursor self.new.scanner.cursor }
     {
         if self.failed {
-            return Ok(None);
+            *next = None;
+            return;
         }
         match self.first {
-            Some(start) => {
-                self.first = None;
-                Ok(Some((Event::StreamStart, Span::empty(start))))
-            }
-            None => self.later_event(alloc),
+            Some(start) => self.start_stream(start, next),
+            None => self.later_event(alloc, next),
         }
+    }
+
+    /// The start of the stream is put there. Apart, since room for an event would be cleared on the way of each one.
+    #[inline(never)]
+    fn start_stream(
+        &mut self,
+        start: Marker,
+        next: &mut Option<Result<(Event<'input>, Span), ScanError>>,
+    )
+        ensures told { (x : Event × Span) × (next.new ≡ Some (Ok x)) × (plain_event x ≡ event_on StreamStart start) }
+        ensures rest { self.new ≡ record self.old { first = None } }
+    {
+        self.first = None;
+        *next = Some(Ok((Event::StreamStart, Span::empty(start))));
     }
 
     /// Whether a call failed: nothing more is given.
@@ -241,35 +260,72 @@ impl<'input, T: BorrowedInput<'input>> Stepper<'input, T> {
     }
 
     /// The next event behind the start of the stream.
-    fn later_event(&mut self, alloc: Global) -> Result<Option<(Event<'input>, Span)>, ScanError>
+    fn later_event(
+        &mut self,
+        alloc: Global,
+        next: &mut Option<Result<(Event<'input>, Span), ScanError>>,
+    )
         ensures known { (m : StepState) → StandsIn T.unread self.old m → self.old.first ≡ None
-            → GivesOr (option_map plain_event) result (StandsIn T.unread self.new)
+            → GivesOr (option_map plain_event) (answer_in next.new) (StandsIn T.unread self.new)
             (steps.next_event self.old.scanner.options m)
             (RefusesNumber self.old.renumbered self.old.scanner.options m) }
         ensures refused { (m : StepState) → StandsIn T.unread self.old m → self.old.first ≡ None
-            → Turned self.old.scanner.options m → RefusesLater T.unread self.old.scanner.options result self.new m }
+            → Turned self.old.scanner.options m
+            → RefusesLater T.unread self.old.scanner.options (answer_in next.new) self.new m }
         ensures ahead { (m : StepState) → HoldsRefusal T.unread self.old m
-            → GivesAhead T.unread (option_map plain_event) result self.new m }
+            → GivesAhead T.unread (option_map plain_event) (answer_in next.new) self.new m }
         ensures held { (m : StepState) (e : Fault) → HoldsFault T.unread self.old m e
-            → GivesHeld T.unread (option_map plain_event) result self.new m e }
+            → GivesHeld T.unread (option_map plain_event) (answer_in next.new) self.new m e }
         ensures first { self.new.first ≡ self.old.first }
-        ensures failed { IfErr result (λ e. self.new.failed ≡ true) }
-        ensures lost { IfErr result (λ e. e.kind ≡ faults.NoMemory → self.new.refusal ≡ None) }
-        ensures waiting { self.old.first ≡ None → GivesFirstWaiting (option_map plain_event) result self.old self.new }
-        ensures ended { StaysAtEnd None result self.old self.new }
+        ensures failed { IfErr (answer_in next.new) (λ e. self.new.failed ≡ true) }
+        ensures lost { IfErr (answer_in next.new) (λ e. e.kind ≡ faults.NoMemory → self.new.refusal ≡ None) }
+        ensures waiting { self.old.first ≡ None
+            → GivesFirstWaiting (option_map plain_event) (answer_in next.new) self.old self.new }
+        ensures ended { StaysAtEnd None (answer_in next.new) self.old self.new }
         ensures options { self.new.scanner.options ≡ self.old.scanner.options }
         ensures renumbered { self.new.renumbered ≡ self.old.renumbered }
         ensures moves { Moves T.unread T.left T.origin self.old.scanner.cursor self.new.scanner.cursor }
     {
         let mut fault = None;
         match self.settle(alloc, &mut fault) {
-            Ok(()) => Ok(self.parser.pop_event()),
-            Err(refused) => {
-                let error = error_of(fault, refused);
-                self.fail(&error);
-                Err(error)
-            }
+            Ok(()) => self.put_waiting(next),
+            Err(refused) => self.put_refusal(fault, refused, next),
         }
+    }
+
+    /// The first event that waits is put there, or nothing more: from where it stood, so that it is moved but once.
+    #[inline(always)]
+    fn put_waiting(&mut self, next: &mut Option<Result<(Event<'input>, Span), ScanError>>)
+        ensures first { (x : Option (Event × Span)) × (answer_in next.new ≡ Ok x)
+            × (option_map plain_event x ≡ slice_get self.old.parser.given 0) }
+        ensures rest { self.new ≡ record self.old {
+          parser = record (self.old.parser) { given = drop 1 self.old.parser.given };
+        } }
+    {
+        let Some(event) = self.parser.pop_event() else {
+            *next = None;
+            return;
+        };
+        *next = Some(Ok(event));
+    }
+
+    /// The refusal is put there, and nothing more is given. Apart, as the start of the stream.
+    #[inline(never)]
+    fn put_refusal(
+        &mut self,
+        fault: Option<ScanError>,
+        refused: Refused,
+        next: &mut Option<Result<(Event<'input>, Span), ScanError>>,
+    )
+        ensures told { next.new ≡ Some (Err (why fault refused)) }
+        ensures kept { ((why fault refused).kind ≡ faults.NoMemory → ⊥)
+            → self.new ≡ record self.old { failed = true } }
+        ensures lost { (why fault refused).kind ≡ faults.NoMemory → self.new.refusal ≡ None }
+        ensures rest { self.new ≡ record self.old { failed = true; refusal = self.new.refusal } }
+    {
+        let error = error_of(fault, refused);
+        self.fail(&error);
+        *next = Some(Err(error));
     }
 
     /// Nothing more is given, and behind a want of memory recovery is refused.
@@ -556,7 +612,7 @@ impl<'input, T: BorrowedInput<'input>> Stepper<'input, T> {
         fault: &mut Option<ScanError>,
         front: Front<'input>,
     ) -> Result<bool, Refused>
-        requires { refusals.mark_of_item (front_view front).0.item ≡ None }
+        requires { mark_of_item (front_view front).0.item ≡ None }
         ensures known { (m : StepState) → StandsIn T.unread self.old m → self.old.first ≡ None → m.pending ≡ []
             → GivesOr spec.turn_view (answered fault.new result) (StandsIn T.unread self.new)
             (spec.feed_item self.old.scanner.options (front_view front.entry) m)

@@ -4,10 +4,11 @@
 use crate::words::{cursor_at, push_fault, push_place, push_token};
 use anyhow::{Context, Result};
 use granit_base::{Marker, is_blank_or_breakz};
-use granit_cursor::Token;
+use granit_cursor::{Cursor, Layout, Lexed, Token, scan_comment};
 use granit_error::ScanError;
 use granit_input::{BorrowedInput, Input};
-use granit_lex::{Cursor, Layout, Lexed, scan_comment, scan_plain_scalar, scan_quoted_scalar};
+use granit_plain::scan_plain_scalar;
+use granit_quoted::scan_quoted_scalar;
 use serde_json::Value;
 use std::alloc::Global;
 

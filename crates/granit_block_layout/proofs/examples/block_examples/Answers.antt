@@ -36,7 +36,7 @@ use Rattle.granit_machine.specs.Reader.{lexeme_of, is_strict_outside, lexeme_in_
 use Rattle.granit_machine.specs.ReaderState.{tailed}
 use Rattle.granit_machine.specs.StreamLexemes.{end_mark_up_to}
 use Rattle.granit_model.proofs.FittingLemmas.{told_documents}
-use Rattle.granit_canonical.specs.Examples.{names_tree}
+use Rattle.granit_model.specs.WorkedTrees.{names_tree}
 use Rattle.granit_model.specs.FlowText.{upper_digit, tag_byte, quoted_character}
 use Rattle.granit_block_layout.proofs.examples.block_examples.Goals as goal
 

@@ -7,7 +7,7 @@ use Rattle.granit_base.specs.Classes.{is_printable, is_break, is_blank, is_flow,
 use Rattle.granit_model.specs.FlowText.{upper_digit, tag_byte, quoted_character}
 use Rattle.granit_lexemes.specs.Line.{event_line, quoted_char}
 use Rattle.granit_model.proofs.FittingLemmas.{told_documents}
-use Rattle.granit_canonical.specs.Examples.{names_tree}
+use Rattle.granit_model.specs.WorkedTrees.{names_tree}
 use Rattle.granit_canonical.proofs.examples.canonical_examples.Goals as goal
 
 pub returns-clause-nothing : goal.returns-clause-nothing

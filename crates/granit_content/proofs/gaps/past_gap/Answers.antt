@@ -1,5 +1,5 @@
 use Rattle.std.proofs.Common.{Bool, subst, if◌then◌else◌, arith}
-use Rattle.granit_input.specs.Lines.{is_line_gap}
+use Rattle.granit_runs.specs.Lines.{is_line_gap}
 use Rattle.granit_input.proofs.OriginLemmas.{goes_on}
 use Rattle.granit_lexemes.specs.Here.{Here, past}
 use Rattle.granit_cursor.specs.Reading.{Stands}

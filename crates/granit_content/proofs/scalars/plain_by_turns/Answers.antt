@@ -4,7 +4,7 @@ use Rattle.granit_base.specs.Place.{Mark}
 use Rattle.granit_error.specs.OptionsView.{options_of}
 use Rattle.granit_lexemes.specs.Here.{mark_of}
 use Rattle.granit_machine.specs.PossibleKeys.{layout_of}
-use Rattle.granit_lex.specs.PlainCode.{plain_from}
+use Rattle.granit_plain.specs.PlainCode.{plain_from}
 use Rattle.granit_content.specs.ScalarReads.{layout_asking}
 use Rattle.granit_content.proofs.ScalarLemmas.{plain_items, plain_fails}
 use Rattle.granit_refused.specs.Answered.{why}

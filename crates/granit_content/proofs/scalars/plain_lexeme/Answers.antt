@@ -4,7 +4,7 @@ use Rattle.granit_error.specs.OptionsView.{options_of}
 use Rattle.granit_machine.specs.PossibleKeys.{layout_of}
 use Rattle.granit_cursor.specs.Plain.{PassesPlain}
 use Rattle.granit_cursor.specs.Reading.{Stands, coded}
-use Rattle.granit_lex.specs.PlainCode.{plain_lexed}
+use Rattle.granit_plain.specs.PlainCode.{plain_lexed}
 use Rattle.granit_content.specs.ScalarReads.{layout_asking}
 use Rattle.granit_content.proofs.ScalarLemmas.{plain_items}
 use Rattle.granit_content.proofs.WordLemmas.{passed_at_once, passed_read}

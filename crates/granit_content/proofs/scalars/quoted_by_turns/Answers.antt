@@ -7,7 +7,7 @@ use Rattle.granit_lexemes.specs.Here.{mark_of}
 use Rattle.granit_lexemes.specs.Lexeme.{Lexeme}
 use Rattle.granit_machine.specs.PossibleKeys.{layout_of}
 use Rattle.granit_machine.specs.ReaderState.{with_tail}
-use Rattle.granit_lex.specs.QuotedCode.{quoted_from, remark_token}
+use Rattle.granit_quoted.specs.QuotedCode.{quoted_from, remark_token}
 use Rattle.granit_content.specs.KindViews.{note_of_token}
 use Rattle.granit_content.specs.ScalarReads.{layout_asking}
 use Rattle.granit_content.proofs.ScalarLemmas.{quoted_items, quoted_fails}

@@ -7,8 +7,8 @@ use Rattle.granit_lexemes.specs.Moves.{steps}
 use Rattle.granit_lexemes.specs.QuotedScalar.{quoted_read}
 use Rattle.granit_machine.specs.PossibleKeys.{layout_of}
 use Rattle.granit_cursor.specs.Reading.{coded}
-use Rattle.granit_lex.specs.QuotedCode.{quoted_lexed}
-use Rattle.granit_lex.proofs.SeenQuoted.{seen_quoted}
+use Rattle.granit_quoted.specs.QuotedCode.{quoted_lexed}
+use Rattle.granit_quoted.proofs.SeenQuoted.{seen_quoted}
 use Rattle.granit_content.specs.ScalarReads.{layout_asking}
 use Rattle.granit_content.proofs.ScalarLemmas.{quoted_items}
 use Rattle.granit_content.proofs.scalars.quoted_lexeme.Goals as goal

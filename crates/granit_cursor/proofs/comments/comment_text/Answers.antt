@@ -4,8 +4,8 @@ use Rattle.std.proofs.lemmas.Str.{chars-nil}
 use Rattle.granit_base.specs.Place.{Mark, Unread}
 use Rattle.granit_base.specs.Written.{string_chars}
 use Rattle.granit_input.specs.Origin.{LentBetween}
-use Rattle.granit_input.specs.Runs.{starts, is_line_char}
-use Rattle.granit_input.specs.Unread.{past_count}
+use Rattle.granit_runs.specs.Runs.{starts, is_line_char}
+use Rattle.granit_runs.specs.Unread.{past_count}
 use Rattle.granit_lexemes.specs.Here.{mid_line}
 use Rattle.granit_lexemes.specs.Moves.{steps}
 use Rattle.granit_cursor.proofs.MoveLemmas.{char_line}

@@ -1,6 +1,6 @@
 use Rattle.std.proofs.Common.{◌≡◌, false, take, is_some, IfSome, ap, subst}
 use Rattle.std.specs.Str.{chars}
-use Rattle.granit_input.specs.Unread.{past_count}
+use Rattle.granit_runs.specs.Unread.{past_count}
 use Rattle.granit_cursor.proofs.SourceLemmas.{lent_here}
 use Rattle.granit_cursor.proofs.lending.lent_since.Goals as goal
 

@@ -1,6 +1,6 @@
 use Rattle.std.proofs.Common.{◌≡◌, ◌==◌, true, false, length, drop, subst, sym, ◌∙◌, zero-le, arith}
 use Rattle.std.proofs.lemmas.Bool.Decides.{nat_tests}
-use Rattle.granit_input.specs.Unread.{past_count}
+use Rattle.granit_runs.specs.Unread.{past_count}
 use Rattle.granit_input.proofs.UnreadLemmas.{past_none, past_text, past_twice, end_reached, end_ahead}
 use Rattle.granit_cursor_tests.proofs.calls.count_rest.Goals as goal
 

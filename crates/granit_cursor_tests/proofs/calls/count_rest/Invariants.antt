@@ -1,6 +1,6 @@
 use Rattle.std.proofs.Common.{◌≤◌, ◌+◌, length}
 use Rattle.granit_base.specs.Place.{Unread}
-use Rattle.granit_input.specs.Unread.{past_count}
+use Rattle.granit_runs.specs.Unread.{past_count}
 use Rattle.granit_cursor_tests.proofs.calls.count_rest.Given as goal
 
 abbrev pub invariant-rest : goal.invariant-rest

@@ -2,7 +2,7 @@ use Rattle.std.proofs.Common.{ℕ, List, ◌++◌, take, Some, None, ap, subst, 
 use Rattle.std.specs.Str.{chars}
 use Rattle.std.proofs.lemmas.Str.{chars-nil}
 use Rattle.granit_base.specs.Written.{Written}
-use Rattle.granit_input.specs.Unread.{past_count}
+use Rattle.granit_runs.specs.Unread.{past_count}
 use Rattle.granit_input.proofs.LendLemmas.{lent_past}
 use Rattle.granit_cursor_tests.proofs.calls.word.Goals as goal
 

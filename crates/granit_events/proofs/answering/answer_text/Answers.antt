@@ -1,14 +1,20 @@
 use Rattle.std.proofs.Common.{◌∙◌, sym, rules}
-use Rattle.granit_events.proofs.AnswerLemmas.{cut_done, cut_fault, whole_fault, cut_nothing, is_other}
+use Rattle.granit_events.proofs.AnswerLemmas.{cut_done, cut_fault, cut_nothing, is_other, whole_done, whole_fault}
 use Rattle.granit_events.proofs.Known.{keeps_itself}
 use Rattle.granit_events.proofs.answering.answer_text.Goals as goal
 
-pub returns-in_err-write_events-in-Ok-clause-cut :
-    goal.returns-in_err-write_events-in-Ok-clause-cut
-returns-in_err-write_events-in-Ok-clause-cut g c =
-    let w = cut_done _ _ _ _ _ c.utf8.text c.in-Ok.ensures.value
-    (rw c.as_slice.ensures at c.in_err-write_events-in-Ok.ensures.front) in
+pub returns-in_err-write_all-in-Ok-clause-cut : goal.returns-in_err-write_all-in-Ok-clause-cut
+returns-in_err-write_all-in-Ok-clause-cut g c =
+    let lines = c.in-Ok.ensures.value in
+    let w = cut_done _ _ _ _ lines.0 c.utf8.text lines.1
+    (rw (c.as_slice.ensures.value, lines.2) at c.in_err-write_all-in-Ok.ensures.front) in
     search rules
+
+pub returns-in_ok-write_all-in-Ok-clause-whole : goal.returns-in_ok-write_all-in-Ok-clause-whole
+returns-in_ok-write_all-in-Ok-clause-whole g c =
+    let lines = c.in-Ok.ensures.value in
+    whole_done _ _ _ _ lines.0 c.utf8.text lines.1
+    (rw (c.as_slice.ensures.value, lines.2) at c.in_ok-write_all-in-Ok.ensures.whole)
 
 pub returns-then-ran_out-clause-cut : goal.returns-then-ran_out-clause-cut
 returns-then-ran_out-clause-cut g c = cut_nothing _ _ _ _ c.utf8.text (keeps_itself _)

@@ -1,11 +1,11 @@
 use Rattle.std.proofs.Common.{◌≡◌, ◌≤◌, ◌+◌, ◌++◌, length, max, take}
 use Rattle.granit_base.specs.Place.{Unread}
 use Rattle.granit_base.specs.Written.{string_chars}
-use Rattle.granit_input.specs.Chunks.{Extends}
+use Rattle.granit_runs.specs.Chunks.{Extends}
 use Rattle.granit_input.specs.Origin.{Goes}
-use Rattle.granit_input.specs.Runs.{run_test}
-use Rattle.granit_input.specs.Unread.{past_count}
-use Rattle.granit_input.proofs.RunLemmas.{IsFront}
+use Rattle.granit_runs.specs.Runs.{run_test}
+use Rattle.granit_runs.specs.Unread.{past_count}
+use Rattle.granit_runs.proofs.RunLemmas.{IsFront}
 use Rattle.granit_buffered.specs.Feeds.{LeftInFeed, origin_of}
 use Rattle.granit_buffered.proofs.buffered.ReadAheadInput.fetch_run.Given as goal
 

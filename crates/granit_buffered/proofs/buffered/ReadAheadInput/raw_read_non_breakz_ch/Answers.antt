@@ -1,7 +1,7 @@
 use Rattle.std.proofs.Common.{sym, ap, ◌∙◌, arith}
 use Rattle.granit_base.specs.Classes.{is_breakz}
 use Rattle.granit_input.proofs.OriginLemmas.{goes_on}
-use Rattle.granit_input.proofs.RunLemmas.{breakz_some}
+use Rattle.granit_runs.proofs.RunLemmas.{breakz_some}
 use Rattle.granit_buffered.proofs.buffered.ReadAheadInput.raw_read_non_breakz_ch.Goals as goal
 
 pub returns-then-is_breakz-clause-read : goal.returns-then-is_breakz-clause-read

@@ -1,5 +1,5 @@
 use Rattle.std.proofs.Common.{◌≡◌, subst, sym, arith}
-use Rattle.granit_input.specs.Unread.{past_count}
+use Rattle.granit_runs.specs.Unread.{past_count}
 use Rattle.granit_input.proofs.OriginLemmas.{goes_nowhere, goes_on}
 use Rattle.granit_input.proofs.UnreadLemmas.{past_none, past_twice}
 use Rattle.granit_buffered.specs.Feeds.{LeftInFeed}

@@ -1,7 +1,7 @@
 use Rattle.std.proofs.Common.{◌-◌, ◌+◌, ◌≤◌, length, min}
 use Rattle.granit_base.specs.Place.{Unread}
 use Rattle.granit_input.specs.Origin.{Goes}
-use Rattle.granit_input.specs.Unread.{past_count}
+use Rattle.granit_runs.specs.Unread.{past_count}
 use Rattle.granit_buffered.specs.Feeds.{LeftInFeed, origin_of}
 use Rattle.granit_buffered.proofs.buffered.ReadAheadInput.skip_n.Given as goal
 

@@ -1,8 +1,8 @@
 use Rattle.std.proofs.Common.{◌≡◌, drop, subst, sym, ap, true, false, ◌∙◌, arith}
-use Rattle.granit_input.specs.Unread.{past_count}
-use Rattle.granit_input.specs.Runs.{run_test}
+use Rattle.granit_runs.specs.Unread.{past_count}
+use Rattle.granit_runs.specs.Runs.{run_test}
 use Rattle.granit_input.proofs.OriginLemmas.{goes_nowhere, goes_on}
-use Rattle.granit_input.proofs.RunLemmas.{run_nul, front_none, front_more, front_ended, front_cut}
+use Rattle.granit_runs.proofs.RunLemmas.{run_nul, front_none, front_more, front_ended, front_cut}
 use Rattle.granit_input.proofs.UnreadLemmas.{past_none, past_text, past_twice}
 use Rattle.granit_buffered.specs.Feeds.{LeftInFeed}
 use Rattle.granit_buffered.proofs.buffered.ReadAheadInput.skip_run.Goals as goal

@@ -1,13 +1,13 @@
 use Rattle.std.proofs.Common.{◌≡◌, true, false, drop, subst, sym, ap, ◌∙◌, arith}
 use Rattle.granit_base.specs.Place.{first}
-use Rattle.granit_input.specs.Unread.{past_count}
-use Rattle.granit_input.specs.Runs.{starts}
-use Rattle.granit_input.specs.White.{is_skipped, found_more}
-use Rattle.granit_input.specs.declared.whitespace.WhitespaceResult.{WhitespaceResult}
+use Rattle.granit_runs.specs.Unread.{past_count}
+use Rattle.granit_runs.specs.Runs.{starts}
+use Rattle.granit_runs.specs.White.{is_skipped, found_more}
+use Rattle.granit_runs.specs.declared.whitespace.WhitespaceResult.{WhitespaceResult}
 use Rattle.granit_input.proofs.OriginLemmas.{goes_nowhere, goes_on}
-use Rattle.granit_input.proofs.RunLemmas.{front_none, front_more, front_whole}
+use Rattle.granit_runs.proofs.RunLemmas.{front_none, front_more, front_whole}
 use Rattle.granit_input.proofs.UnreadLemmas.{past_none, past_text, past_twice}
-use Rattle.granit_input.proofs.WhiteLemmas.{skipped_nul, found_next, passes_some}
+use Rattle.granit_runs.proofs.WhiteLemmas.{skipped_nul, found_next, passes_some}
 use Rattle.granit_buffered.specs.Feeds.{LeftInFeed}
 use Rattle.granit_buffered.proofs.buffered.ReadAheadInput.skip_ws_to_eol_blanks.Goals as goal
 

@@ -1,6 +1,6 @@
 use Rattle.std.proofs.Common.{refl, le_of_eq, sym, ap, arith}
 use Rattle.granit_base.specs.Classes.{is_non_breakz}
-use Rattle.granit_input.specs.Runs.{starts}
+use Rattle.granit_runs.specs.Runs.{starts}
 use Rattle.granit_cursor.proofs.MoveLemmas.{stands_at, lands_inside, non_breakz_line}
 use Rattle.granit_cursor.proofs.OnwardLemmas.{line_on, lost_on}
 use Rattle.granit_cursor.proofs.cursor.Cursor.fetch_block_scalar_line.Goals as goal

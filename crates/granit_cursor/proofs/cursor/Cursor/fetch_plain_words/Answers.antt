@@ -1,7 +1,7 @@
 use Rattle.std.proofs.Common.{◌-◌, ◌^◌, refl, arith, sym, ap}
-use Rattle.granit_input.specs.Runs.{is_plain_word}
-use Rattle.granit_input.specs.declared.class.Run.TheVariants.{PlainWords}
-use Rattle.granit_input.proofs.RunLemmas.{run_nul}
+use Rattle.granit_runs.specs.Runs.{is_plain_word}
+use Rattle.granit_runs.specs.declared.class.Run.TheVariants.{PlainWords}
+use Rattle.granit_runs.proofs.RunLemmas.{run_nul}
 use Rattle.granit_cursor.proofs.MoveLemmas.{stands_at}
 use Rattle.granit_cursor.proofs.SourceLemmas.{whole_run}
 use Rattle.granit_cursor.proofs.WordLemmas.{lands_joined, plain_joins}

@@ -1,6 +1,6 @@
 use Rattle.std.proofs.Common.{refl, le_of_eq, sym, ap, arith}
 use Rattle.granit_base.specs.Classes.{is_alpha}
-use Rattle.granit_input.specs.Runs.{starts}
+use Rattle.granit_runs.specs.Runs.{starts}
 use Rattle.granit_cursor.proofs.MoveLemmas.{stands_at, lands, alpha_shows}
 use Rattle.granit_cursor.proofs.OnwardLemmas.{run_on, lost_on}
 use Rattle.granit_cursor.proofs.cursor.Cursor.fetch_while_is_alpha.Goals as goal

@@ -1,6 +1,6 @@
 use Rattle.std.proofs.Common.{refl, le_of_eq, sym, ap, arith}
 use Rattle.granit_base.specs.Classes.{is_yaml_non_space}
-use Rattle.granit_input.specs.Runs.{starts}
+use Rattle.granit_runs.specs.Runs.{starts}
 use Rattle.granit_cursor.proofs.MoveLemmas.{stands_at, lands, non_space_shows}
 use Rattle.granit_cursor.proofs.OnwardLemmas.{run_on, lost_on}
 use Rattle.granit_cursor.proofs.cursor.Cursor.fetch_while_is_yaml_non_space.Goals as goal

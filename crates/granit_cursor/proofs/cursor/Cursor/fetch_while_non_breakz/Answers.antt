@@ -1,6 +1,6 @@
 use Rattle.std.proofs.Common.{◌≡◌, ◌<◌, ◌-◌, ◌^◌, refl, arith, sym, ap}
-use Rattle.granit_input.specs.Runs.{run_length, starts, is_line_char}
-use Rattle.granit_input.proofs.RunLemmas.{front_all}
+use Rattle.granit_runs.specs.Runs.{run_length, starts, is_line_char}
+use Rattle.granit_runs.proofs.RunLemmas.{front_all}
 use Rattle.granit_cursor.proofs.MoveLemmas.{stands_at, lands_inside, char_line}
 use Rattle.granit_cursor.proofs.OnwardLemmas.{line_on, lost_on}
 use Rattle.granit_cursor.proofs.cursor.Cursor.fetch_while_non_breakz.Goals as goal

@@ -1,6 +1,6 @@
 use Rattle.std.proofs.Common.{◌≡◌, ◌-◌, ◌+◌, Some, None, refl, sym, ap, ◌∙◌, arith}
 use Rattle.granit_base.specs.Place.{Mark, Place}
-use Rattle.granit_input.specs.Words.{stops_words}
+use Rattle.granit_runs.specs.Words.{stops_words}
 use Rattle.granit_cursor.proofs.MoveLemmas.{moved, stands_at}
 use Rattle.granit_cursor.proofs.OnwardLemmas.{goes_by, stays}
 use Rattle.granit_cursor.proofs.PlainLemmas.{ends_onward, line_lands, line_there, words_land, words_mark, words_text}

@@ -1,5 +1,5 @@
 use Rattle.std.proofs.Common.{◌-◌, ◌^◌, refl, arith, sym, ap}
-use Rattle.granit_input.specs.Runs.{starts, is_quoted_char}
+use Rattle.granit_runs.specs.Runs.{starts, is_quoted_char}
 use Rattle.granit_cursor.proofs.MoveLemmas.{stands_at, lands, quoted_shows}
 use Rattle.granit_cursor.proofs.SourceLemmas.{whole_run}
 use Rattle.granit_cursor.proofs.OnwardLemmas.{run_on}

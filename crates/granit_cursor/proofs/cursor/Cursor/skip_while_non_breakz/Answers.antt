@@ -1,5 +1,5 @@
 use Rattle.std.proofs.Common.{refl, le_of_eq, sym, ap, arith}
-use Rattle.granit_input.specs.Runs.{starts, is_line_char}
+use Rattle.granit_runs.specs.Runs.{starts, is_line_char}
 use Rattle.granit_cursor.proofs.MoveLemmas.{stands_at, lands_inside, char_line}
 use Rattle.granit_cursor.proofs.OnwardLemmas.{line_on}
 use Rattle.granit_cursor.proofs.cursor.Cursor.skip_while_non_breakz.Goals as goal

@@ -1,5 +1,5 @@
 use Rattle.std.proofs.Common.{refl, sym, ap, arith}
-use Rattle.granit_input.specs.Lines.{is_line_gap}
+use Rattle.granit_runs.specs.Lines.{is_line_gap}
 use Rattle.granit_cursor.proofs.LineLemmas.{lands_lines, past_on}
 use Rattle.granit_cursor.proofs.MoveLemmas.{stands_at}
 use Rattle.granit_cursor.proofs.OnwardLemmas.{stays}

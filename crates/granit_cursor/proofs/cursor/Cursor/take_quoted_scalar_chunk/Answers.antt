@@ -2,8 +2,8 @@ use Rattle.std.proofs.Common.{◌≡◌, ◌-◌, ◌^◌, false, take, is_some,
 use Rattle.std.specs.Str.{chars}
 use Rattle.std.proofs.lemmas.Str.{chars-nil}
 use Rattle.granit_input.specs.Origin.{Goes}
-use Rattle.granit_input.specs.Runs.{starts, is_quoted_char}
-use Rattle.granit_input.specs.Unread.{past_count}
+use Rattle.granit_runs.specs.Runs.{starts, is_quoted_char}
+use Rattle.granit_runs.specs.Unread.{past_count}
 use Rattle.granit_input.proofs.OriginLemmas.{goes_nowhere}
 use Rattle.granit_lexemes.specs.Moves.{steps}
 use Rattle.granit_cursor.proofs.MoveLemmas.{stands_at, lands, quoted_shows}

@@ -1,7 +1,7 @@
 use Rattle.std.proofs.Common.{◌≡◌, None, false, subst, sym, arith}
 use Rattle.granit_base.specs.Place.{Unread}
 use Rattle.granit_cursor_tests.specs.Stream.{StreamHolds}
-use Rattle.granit_input.specs.Unread.{past_count}
+use Rattle.granit_runs.specs.Unread.{past_count}
 use Rattle.granit_input.proofs.OriginLemmas.{goes_nowhere, goes_on}
 use Rattle.granit_input.proofs.UnreadLemmas.{past_none, past_twice}
 use Rattle.granit_cursor_tests.proofs.stream.StreamInput.skip_n.Goals as goal

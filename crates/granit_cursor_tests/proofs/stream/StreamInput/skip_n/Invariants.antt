@@ -2,7 +2,7 @@ use Rattle.std.proofs.Common.{◌-◌, ◌≡◌, ◌+◌, ◌≤◌, length, mi
 use Rattle.granit_base.specs.Place.{Unread}
 use Rattle.granit_input.specs.Origin.{Goes}
 use Rattle.granit_cursor_tests.specs.Stream.{StreamHolds, of_stream}
-use Rattle.granit_input.specs.Unread.{past_count}
+use Rattle.granit_runs.specs.Unread.{past_count}
 use Rattle.granit_cursor_tests.proofs.stream.StreamInput.skip_n.Given as goal
 use Rattle.granit_buffered.specs.Feeds.{still_left}
 

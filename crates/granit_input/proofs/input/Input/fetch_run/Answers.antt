@@ -4,13 +4,13 @@ use Rattle.std.proofs.lemmas.Result.{err_from_is_err_and}
 use Rattle.std.proofs.lemmas.List.{append-nil}
 use Rattle.granit_base.specs.Place.{first}
 use Rattle.granit_base.specs.Written.{string_chars}
-use Rattle.granit_input.specs.Unread.{past_count}
-use Rattle.granit_input.specs.Runs.{run_test}
+use Rattle.granit_runs.specs.Unread.{past_count}
+use Rattle.granit_runs.specs.Runs.{run_test}
 use Rattle.granit_input.proofs.AppendLemmas.{extends_none, extends_more, appended_more}
 use Rattle.granit_input.proofs.OriginLemmas.{goes_nowhere, goes_on}
-use Rattle.granit_input.proofs.RunLemmas.{run_nul, front_none, front_more, front_ended, front_fits}
+use Rattle.granit_runs.proofs.RunLemmas.{run_nul, front_none, front_more, front_ended, front_fits}
 use Rattle.granit_input.proofs.UnreadLemmas.{past_none, past_text, past_twice}
-use Rattle.granit_input.proofs.WhiteLemmas.{passes_some}
+use Rattle.granit_runs.proofs.WhiteLemmas.{passes_some}
 use Rattle.granit_input.proofs.input.Input.fetch_run.Goals as goal
 
 pub run-init : goal.run-init

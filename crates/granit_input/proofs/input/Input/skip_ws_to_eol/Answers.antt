@@ -1,12 +1,12 @@
 use Rattle.std.proofs.Common.{◌≡◌, ◌<◌, ℕ, drop, subst, sym, ap, ◌∙◌, ◌-◌, ◌^◌, refl, arith}
 use Rattle.granit_base.specs.Classes.{is_non_breakz}
 use Rattle.granit_base.specs.Place.{first}
-use Rattle.granit_input.specs.Unread.{past_count}
-use Rattle.granit_input.specs.Runs.{run_length, starts}
-use Rattle.granit_input.specs.White.{comment_length}
-use Rattle.granit_input.proofs.RunLemmas.{front_all}
+use Rattle.granit_runs.specs.Unread.{past_count}
+use Rattle.granit_runs.specs.Runs.{run_length, starts}
+use Rattle.granit_runs.specs.White.{comment_length}
+use Rattle.granit_runs.proofs.RunLemmas.{front_all}
 use Rattle.granit_input.proofs.UnreadLemmas.{past_text, past_twice}
-use Rattle.granit_input.proofs.WhiteLemmas.{white_without, white_refused, white_comment}
+use Rattle.granit_runs.proofs.WhiteLemmas.{white_without, white_refused, white_comment}
 use Rattle.granit_input.proofs.input.Input.skip_ws_to_eol.Goals as goal
 
 pub returns-then-c-ne35-clause-skips : goal.returns-then-c-ne35-clause-skips

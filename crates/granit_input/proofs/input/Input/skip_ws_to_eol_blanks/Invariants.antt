@@ -1,10 +1,10 @@
 use Rattle.std.proofs.Common.{◌≡◌, ◌≤◌, ◌+◌, take}
 use Rattle.granit_base.specs.Place.{Unread}
-use Rattle.granit_input.specs.Unread.{past_count}
+use Rattle.granit_runs.specs.Unread.{past_count}
 use Rattle.granit_input.specs.Origin.{Goes}
-use Rattle.granit_input.specs.Runs.{starts}
-use Rattle.granit_input.specs.White.{is_skipped, whitespace_found}
-use Rattle.granit_input.proofs.RunLemmas.{IsFront}
+use Rattle.granit_runs.specs.Runs.{starts}
+use Rattle.granit_runs.specs.White.{is_skipped, whitespace_found}
+use Rattle.granit_runs.proofs.RunLemmas.{IsFront}
 use Rattle.granit_input.proofs.input.Input.skip_ws_to_eol_blanks.Given as goal
 
 abbrev pub invariant-blanks : goal.invariant-blanks

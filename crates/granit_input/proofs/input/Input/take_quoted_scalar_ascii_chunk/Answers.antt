@@ -1,5 +1,5 @@
 use Rattle.std.proofs.Common.{refl, sym, arith}
-use Rattle.granit_input.specs.Runs.{starts, is_quoted_ascii}
+use Rattle.granit_runs.specs.Runs.{starts, is_quoted_ascii}
 use Rattle.granit_input.proofs.OriginLemmas.{goes_nowhere}
 use Rattle.granit_input.proofs.QuotedLemmas.{no_chars, takes_none}
 use Rattle.granit_input.proofs.input.Input.take_quoted_scalar_ascii_chunk.Goals as goal

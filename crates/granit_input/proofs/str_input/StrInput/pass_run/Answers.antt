@@ -1,9 +1,9 @@
 use Rattle.std.proofs.Common.{take, ◌-◌, ◌^◌, arith}
 use Rattle.std.specs.Str.{chars, encode_utf8_all}
 use Rattle.granit_base.proofs.CharLemmas.{chars_len}
-use Rattle.granit_input.specs.Runs.{run_test}
-use Rattle.granit_input.proofs.RunLemmas.{front_all, run_within}
-use Rattle.granit_input.proofs.StringLemmas.{suffix_bytes, within_bytes}
+use Rattle.granit_runs.specs.Runs.{run_test}
+use Rattle.granit_runs.proofs.RunLemmas.{front_all, run_within}
+use Rattle.granit_runs.proofs.StringLemmas.{suffix_bytes, within_bytes}
 use Rattle.granit_input.proofs.str_input.StrInput.pass_run.Goals as goal
 
 pub invariant_of-self-clause-suffix : goal.invariant_of-self-clause-suffix

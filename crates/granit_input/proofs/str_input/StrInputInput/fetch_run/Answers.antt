@@ -3,10 +3,10 @@ use Rattle.std.specs.Str.{chars, encode_utf8_all}
 use Rattle.std.proofs.lemmas.Result.{err_from_is_err_and}
 use Rattle.granit_base.specs.Place.{Unread}
 use Rattle.granit_base.specs.Written.{string_chars}
-use Rattle.granit_input.specs.Runs.{run_test}
-use Rattle.granit_input.specs.Unread.{left_of}
+use Rattle.granit_runs.specs.Runs.{run_test}
+use Rattle.granit_runs.specs.Unread.{left_of}
 use Rattle.granit_input.proofs.AppendLemmas.{breaks_at_once}
-use Rattle.granit_input.proofs.StringLemmas.{suffix_bytes, within_bytes, run_behind, run_left}
+use Rattle.granit_runs.proofs.StringLemmas.{suffix_bytes, within_bytes, run_behind, run_left}
 use Rattle.granit_input.proofs.str_input.StrInputInput.fetch_run.Goals as goal
 
 pub invariant_of-self-clause-suffix : goal.invariant_of-self-clause-suffix

@@ -1,7 +1,7 @@
 use Rattle.std.proofs.Common.{◌≡◌, sym, ap, ◌∙◌}
 use Rattle.granit_base.specs.Place.{Unread}
-use Rattle.granit_input.specs.White.{holds}
-use Rattle.granit_input.proofs.HoldsLemmas.{no_hash_left}
+use Rattle.granit_runs.specs.White.{holds}
+use Rattle.granit_runs.proofs.HoldsLemmas.{no_hash_left}
 use Rattle.granit_input.proofs.str_input.StrInputInput.may_contain_comments.Goals as goal
 
 pub returns : goal.returns

@@ -1,7 +1,7 @@
 use Rattle.std.specs.Char.{encode_utf8}
 use Rattle.std.specs.Str.{chars}
-use Rattle.granit_input.proofs.StringLemmas.{suffix_bytes, within_bytes, utf8_behind, read_left, end_left, first_left}
-use Rattle.granit_input.proofs.StringLemmas.{nul_left}
+use Rattle.granit_runs.proofs.StringLemmas.{suffix_bytes, within_bytes, utf8_behind, read_left, end_left, first_left}
+use Rattle.granit_runs.proofs.StringLemmas.{nul_left}
 use Rattle.granit_input.proofs.str_input.StrInputInput.raw_read_ch.Goals as goal
 
 pub invariant_of-self-clause-suffix : goal.invariant_of-self-clause-suffix

@@ -2,7 +2,7 @@ use Rattle.std.proofs.Common.{sym, ap, ◌∙◌}
 use Rattle.std.specs.Char.{encode_utf8}
 use Rattle.std.specs.Str.{chars}
 use Rattle.granit_base.specs.Classes.{is_breakz}
-use Rattle.granit_input.proofs.StringLemmas.{suffix_bytes, within_bytes, utf8_behind, read_left, first_left, end_breakz}
+use Rattle.granit_runs.proofs.StringLemmas.{suffix_bytes, within_bytes, utf8_behind, read_left, first_left, end_breakz}
 use Rattle.granit_input.proofs.str_input.StrInputInput.raw_read_non_breakz_ch.Goals as goal
 
 pub invariant_of-self-clause-suffix : goal.invariant_of-self-clause-suffix

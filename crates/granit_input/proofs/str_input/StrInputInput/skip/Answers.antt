@@ -1,5 +1,5 @@
 use Rattle.std.specs.Char.{encode_utf8}
-use Rattle.granit_input.proofs.StringLemmas.{suffix_bytes, within_bytes, utf8_behind, read_left, end_left}
+use Rattle.granit_runs.proofs.StringLemmas.{suffix_bytes, within_bytes, utf8_behind, read_left, end_left}
 use Rattle.granit_input.proofs.str_input.StrInputInput.skip.Goals as goal
 
 pub invariant_of-self-clause-suffix : goal.invariant_of-self-clause-suffix

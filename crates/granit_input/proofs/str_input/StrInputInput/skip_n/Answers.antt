@@ -1,8 +1,8 @@
 use Rattle.std.proofs.Common.{take, ap, ◌∙◌}
 use Rattle.std.specs.Str.{chars, encode_utf8_all}
 use Rattle.std.proofs.lemmas.Str.{is_utf8-from_IsUtf8}
-use Rattle.granit_input.specs.Unread.{past_count}
-use Rattle.granit_input.proofs.StringLemmas.{suffix_bytes, within_bytes, past_bytes}
+use Rattle.granit_runs.specs.Unread.{past_count}
+use Rattle.granit_runs.proofs.StringLemmas.{suffix_bytes, within_bytes, past_bytes}
 use Rattle.granit_input.proofs.str_input.StrInputInput.skip_n.Goals as goal
 
 pub invariant_of-self-clause-suffix : goal.invariant_of-self-clause-suffix

@@ -1,7 +1,7 @@
 use Rattle.std.proofs.Common.{take, arith, rules}
 use Rattle.std.specs.Str.{chars, encode_utf8_all}
-use Rattle.granit_input.specs.Runs.{run_test}
-use Rattle.granit_input.proofs.StringLemmas.{suffix_bytes, within_bytes, run_behind, run_left}
+use Rattle.granit_runs.specs.Runs.{run_test}
+use Rattle.granit_runs.proofs.StringLemmas.{suffix_bytes, within_bytes, run_behind, run_left}
 use Rattle.granit_input.proofs.str_input.StrInputInput.skip_run.Goals as goal
 
 pub invariant_of-self-clause-suffix : goal.invariant_of-self-clause-suffix

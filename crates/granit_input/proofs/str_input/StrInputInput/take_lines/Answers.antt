@@ -2,11 +2,11 @@ use Rattle.std.proofs.Common.{◌≡◌, ℕ, List, length, take, sym, ap, subst
 use Rattle.std.proofs.lemmas.List.{length-drop}
 use Rattle.std.specs.Str.{chars, encode_utf8_all}
 use Rattle.granit_base.specs.Place.{Unread, first}
-use Rattle.granit_input.specs.Lines.{IsLines, is_line_gap, is_visible}
-use Rattle.granit_input.specs.Runs.{starts}
-use Rattle.granit_input.specs.Unread.{past_count}
-use Rattle.granit_input.proofs.RunLemmas.{run_within}
-use Rattle.granit_input.proofs.StringLemmas.{suffix_bytes, within_bytes, past_bytes}
+use Rattle.granit_runs.specs.Lines.{IsLines, is_line_gap, is_visible}
+use Rattle.granit_runs.specs.Runs.{starts}
+use Rattle.granit_runs.specs.Unread.{past_count}
+use Rattle.granit_runs.proofs.RunLemmas.{run_within}
+use Rattle.granit_runs.proofs.StringLemmas.{suffix_bytes, within_bytes, past_bytes}
 use Rattle.granit_input.proofs.str_input.StrInputInput.take_lines.Goals as goal
 
 pub invariant_of-self-clause-suffix : goal.invariant_of-self-clause-suffix

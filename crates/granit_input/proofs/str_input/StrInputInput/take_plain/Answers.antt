@@ -1,7 +1,7 @@
 use Rattle.std.proofs.Common.{◌≡◌, ◌+◌, ◌-◌, true, length, take, arith, rules}
 use Rattle.std.specs.Str.{chars, encode_utf8_all}
-use Rattle.granit_input.specs.Words.{stops_words}
-use Rattle.granit_input.proofs.StringLemmas.{suffix_bytes, within_bytes}
+use Rattle.granit_runs.specs.Words.{stops_words}
+use Rattle.granit_runs.proofs.StringLemmas.{suffix_bytes, within_bytes}
 use Rattle.granit_input.proofs.StringWords.{both_bytes, feed_no_word, lends_words, line_ended, stop_no_word, stopped}
 use Rattle.granit_input.proofs.StringWords.{words_left}
 use Rattle.granit_input.proofs.str_input.StrInputInput.take_plain.Goals as goal

@@ -1,9 +1,9 @@
 use Rattle.std.proofs.Common.{◌+◌, ◌-◌, length, take, refl, arith}
 use Rattle.std.specs.Str.{chars, encode_utf8_all}
 use Rattle.granit_base.proofs.CharLemmas.{chars_len}
-use Rattle.granit_input.specs.Unread.{left_of}
-use Rattle.granit_input.proofs.QuoteLemmas.{quoted_left, takes_quoted}
-use Rattle.granit_input.proofs.StringLemmas.{suffix_bytes, within_bytes}
+use Rattle.granit_runs.specs.Unread.{left_of}
+use Rattle.granit_input.proofs.QuoteTakes.{quoted_left, takes_quoted}
+use Rattle.granit_runs.proofs.StringLemmas.{suffix_bytes, within_bytes}
 use Rattle.granit_input.proofs.str_input.StrInputInput.take_quoted.Goals as goal
 
 pub quoted_front-requires : goal.quoted_front-requires

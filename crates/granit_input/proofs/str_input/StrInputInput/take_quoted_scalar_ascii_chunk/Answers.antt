@@ -1,9 +1,9 @@
 use Rattle.std.proofs.Common.{◌≡◌, ◌∙◌, refl, sym, ap, length, rules, arith}
 use Rattle.std.proofs.lemmas.List.{length-drop}
 use Rattle.std.specs.Str.{chars}
-use Rattle.granit_input.specs.Runs.{starts, is_quoted_ascii}
-use Rattle.granit_input.proofs.RunLemmas.{run_within}
-use Rattle.granit_input.proofs.StringLemmas.{since_text, taken_length, text_behind}
+use Rattle.granit_runs.specs.Runs.{starts, is_quoted_ascii}
+use Rattle.granit_runs.proofs.RunLemmas.{run_within}
+use Rattle.granit_runs.proofs.StringLemmas.{since_text, taken_length, text_behind}
 use Rattle.granit_input.proofs.str_input.StrInputInput.take_quoted_scalar_ascii_chunk.Goals as goal
 
 pub returns : goal.returns

@@ -5,7 +5,7 @@ use Rattle.granit_parser.proofs.HeldProceedLemmas.{follows_behind, follows_seen}
 use Rattle.granit_parser.proofs.parser.Parser.follows.Goals as goal
 use Rattle.granit_parser.specs.Holding.{WaitsBehind, held_room}
 use Rattle.granit_parser.specs.Parsing.{Parsing}
-use Rattle.granit_parser.specs.Recovering as spec
+use Rattle.granit_seen.specs.Seeing as seeing
 use Rattle.granit_parser.specs.Recovering.{AsksBy, seen_in}
 use Rattle.granit_reader.specs.Meets.{UnlessMemory}
 use Rattle.granit_stepper.specs.Holding.{HoldsFault, held_follows}
@@ -14,7 +14,7 @@ use Rattle.granit_stepper.specs.Recovering.{Looks}
 pub returns-then-tells-clause-known : goal.returns-then-tells-clause-known
 returns-then-tells-clause-known g c = λ stops looked calls asks.
     follows_told g.T.Input.unread stops looked calls c.args.self.now asks
-    (ap spec.seen_tells_document (sym c.seen.ensures) ∙ sym c.tells.ensures ∙ c.if-tells.true)
+    (ap seeing.seen_tells_document (sym c.seen.ensures) ∙ sym c.tells.ensures ∙ c.if-tells.true)
 
 pub invariant_of-self : goal.invariant_of-self
 invariant_of-self g c = (
@@ -38,8 +38,8 @@ returns-clause-known g c = λ stops looked calls asks.
     (record inside { stepper = c.document_follows.new.self })
     c.document_follows.result c.document_follows.ensures.options c.document_follows.ensures.first refl
     (subst (λ (p : Parsing _). AsksBy g.T.Input.unread stops looked p.peeked p.stepper calls) (sym c.self.view_is) asks)
-    (ap (λ (p : Parsing _). spec.seen_tells_document (seen_in p.peeked)) c.self.view_is
-    ∙ ap spec.seen_tells_document (sym c.seen.ensures) ∙ sym c.tells.ensures ∙ c.if-tells.false)
+    (ap (λ (p : Parsing _). seeing.seen_tells_document (seen_in p.peeked)) c.self.view_is
+    ∙ ap seeing.seen_tells_document (sym c.seen.ensures) ∙ sym c.tells.ensures ∙ c.if-tells.false)
     (λ m stands first turned. subst (λ (n : ℕ). UnlessMemory c.document_follows.result
     (Looks g.T.Input.unread c.self.inside.stepper.scanner.options n c.document_follows.result
     c.document_follows.new.self
@@ -49,7 +49,7 @@ pub returns-then-tells-clause-waits : goal.returns-then-tells-clause-waits
 returns-then-tells-clause-waits g c = λ m f waits other.
     let p = c.args.self.now in
     follows_seen g.T.Input.unread p.peeked p.stepper m f (held_room p.stepper.scanner.options true p.peeked) waits
-    (ap spec.seen_tells_document (sym c.seen.ensures) ∙ sym c.tells.ensures ∙ c.if-tells.true) other
+    (ap seeing.seen_tells_document (sym c.seen.ensures) ∙ sym c.tells.ensures ∙ c.if-tells.true) other
 
 pub returns-clause-waits : goal.returns-clause-waits
 returns-clause-waits g c = λ m f waits other.
@@ -59,8 +59,8 @@ returns-clause-waits g c = λ m f waits other.
     subst (λ (p : Parsing _). UnlessMemory r ((r ≡ held_follows (held_room p.stepper.scanner.options true p.peeked) m)
     × WaitsBehind unread c.self.inside.peeked c.document_follows.new.self m f)) c.self.view_is
     (follows_behind unread c.self.inside.peeked c.self.inside.stepper c.document_follows.new.self m f o r
-    (ap (λ (p : Parsing _). spec.seen_tells_document (seen_in p.peeked)) c.self.view_is
-    ∙ ap spec.seen_tells_document (sym c.seen.ensures) ∙ sym c.tells.ensures ∙ c.if-tells.false)
+    (ap (λ (p : Parsing _). seeing.seen_tells_document (seen_in p.peeked)) c.self.view_is
+    ∙ ap seeing.seen_tells_document (sym c.seen.ensures) ∙ sym c.tells.ensures ∙ c.if-tells.false)
     (subst (λ (p : Parsing _). WaitsBehind unread p.peeked p.stepper m f) (sym c.self.view_is) waits)
     (λ n e holds. subst (λ (k : ℕ). UnlessMemory r ((r ≡ held_follows k n)
     × HoldsFault unread c.document_follows.new.self n e)) c.max_comments-room.ensures

@@ -19,9 +19,9 @@ returns-then-looks_first-clause-over g c = λ over.
 pub returns-then-looks_first-clause-failed : goal.returns-then-looks_first-clause-failed
 returns-then-looks_first-clause-failed g c = λ failed.
     let p = c.args.self.now in
-    let t = c.step_event-next in
+    let t = c.step_event in
     let x = t.ensures.over failed in
-    c.put_ahead.ensures ∙ look_stays g.T.Input.unread p t.new.self t.result
+    c.put_ahead.ensures ∙ look_stays g.T.Input.unread p t.new.self t.new.next
     (c.looks_first.ensures.seen c.if-looks_first.true) t.ensures.given t.ensures.between t.ensures.going
     t.ensures.options x.1 x.0
 
@@ -34,14 +34,14 @@ returns-then-looks_first-clause-closed g c = λ calls closed at.
 pub returns-then-looks_first-clause-next : goal.returns-then-looks_first-clause-next
 returns-then-looks_first-clause-next g c = λ calls reached at answered opened.
     let p = c.args.self.now in
-    let t = c.step_event-next in
-    rw c.put_ahead.ensures (shows_first g.T.Input.unread p t.new.self t.result
+    let t = c.step_event in
+    rw c.put_ahead.ensures (shows_first g.T.Input.unread p t.new.self t.new.next
     (c.looks_first.ensures.seen c.if-looks_first.true) t.ensures.given t.ensures.between t.ensures.going
     t.ensures.options c.looks_first.ensures.behind t.ensures.calls t.ensures.refused t.ensures.lost
     (c.an_open_call_gives_something.ensures p.stepper.scanner.options) calls reached at opened)
 
 pub returns-then-looks_first-clause-onward : goal.returns-then-looks_first-clause-onward
-returns-then-looks_first-clause-onward g c = rw c.put_ahead.ensures c.step_event-next.ensures.moves.2
+returns-then-looks_first-clause-onward g c = rw c.put_ahead.ensures c.step_event.ensures.moves.2
 
 pub returns-else-looks_first-clause-next : goal.returns-else-looks_first-clause-next
 returns-else-looks_first-clause-next g c = λ calls reached at answered opened.
@@ -53,10 +53,10 @@ returns-else-looks_first-clause-next g c = λ calls reached at answered opened.
 pub returns-then-looks_first-clause-holds : goal.returns-then-looks_first-clause-holds
 returns-then-looks_first-clause-holds g c = λ calls f holds answered going.
     let p = c.args.self.now in
-    let t = c.step_event-next in
+    let t = c.step_event in
     let none = c.looks_first.ensures.seen c.if-looks_first.true in
-    rw c.put_ahead.ensures (waiting_shows g.T.Input.unread p (record (t.new.self) { peeked = t.result }) calls f holds
-    t.ensures.options t.ensures.renumbered t.result
+    rw c.put_ahead.ensures (waiting_shows g.T.Input.unread p (record (t.new.self) { peeked = t.new.next }) calls f holds
+    t.ensures.options t.ensures.renumbered t.new.next
     (t.ensures.waits calls.steps f
     (subst (λ (w : Next). WaitsBehind g.T.Input.unread w p.stepper calls.steps f) none holds.waits))
     refl t.ensures.between t.ensures.going)

@@ -9,6 +9,7 @@ use Rattle.granit_parser.proofs.RecoverLemmas.{any_stops}
 use Rattle.granit_parser.proofs.parser.Parser.proceed.Goals as goal
 use Rattle.granit_parser.specs.Parsing.{Parsing}
 use Rattle.granit_parser.specs.Recovering as spec
+use Rattle.granit_seen.specs.Seeing as seeing
 
 pub returns-then-self-clause-known : goal.returns-then-self-clause-known
 returns-then-self-clause-known g c = λ calls reached at.
@@ -43,7 +44,7 @@ returns-in_err-follows-clause-known g c = λ calls reached at.
     let same = err_from_is_err_and c.from_residual-in_err-follows.result c.from_residual-in_err-follows.ensures.1 in
     rw (same.1, same.2) (λ other. inl (refused_ends g.T.Input.unread p c.skip.new.self calls
     (c.in_ok-skip.ensures.known calls reached at over (not_given_up g.T.Input.unread p calls at over going)
-    (not_end (spec.seen_in p.peeked) (ap spec.ends_stream (sym c.seen.ensures) ∙ sym c.ends_stream.ensures
+    (not_end (spec.seen_in p.peeked) (ap seeing.ends_stream (sym c.seen.ensures) ∙ sym c.ends_stream.ensures
     ∙ c.if-ends_stream.false)))
     c.follows.new.self e c.in_err-follows.ensures.options c.in_err-follows.ensures.renumbered
     c.in_err-follows.ensures.known other))
@@ -57,7 +58,7 @@ returns-clause-known g c = λ calls reached at.
     sym c.cannot_recover.ensures ∙ c.if-cannot_recover.false in
     answer_ends g.T.Input.unread p c.skip.new.self calls
     (c.in_ok-skip.ensures.known calls reached at over (not_given_up g.T.Input.unread p calls at over going)
-    (not_end (spec.seen_in p.peeked) (ap spec.ends_stream (sym c.seen.ensures) ∙ sym c.ends_stream.ensures
+    (not_end (spec.seen_in p.peeked) (ap seeing.ends_stream (sym c.seen.ensures) ∙ sym c.ends_stream.ensures
     ∙ c.if-ends_stream.false)))
     g.T.Input.origin c.follows.new.self c.answer.new.self c.in_ok-follows.follows c.answer.result
     c.in_ok-follows.ensures.options c.in_ok-follows.ensures.renumbered c.answer.ensures.options
@@ -71,7 +72,7 @@ returns-then-self-clause-answered g c =
 
 pub returns-then-ends_stream-clause-answered : goal.returns-then-ends_stream-clause-answered
 returns-then-ends_stream-clause-answered g c = inr (inr (is_end (spec.seen_in c.args.self.now.peeked)
-    (ap spec.ends_stream (sym c.seen.ensures) ∙ sym c.ends_stream.ensures ∙ c.if-ends_stream.true)))
+    (ap seeing.ends_stream (sym c.seen.ensures) ∙ sym c.ends_stream.ensures ∙ c.if-ends_stream.true)))
 
 pub returns-clause-answered : goal.returns-clause-answered
 returns-clause-answered g c =
@@ -96,7 +97,7 @@ pub returns-then-ends_stream-clause-held : goal.returns-then-ends_stream-clause-
 returns-then-ends_stream-clause-held g c = λ calls f holds going.
     inl (inl (inl (
       is_end (spec.seen_in c.args.self.now.peeked)
-          (ap spec.ends_stream (sym c.seen.ensures) ∙ sym c.ends_stream.ensures ∙ c.if-ends_stream.true),
+          (ap seeing.ends_stream (sym c.seen.ensures) ∙ sym c.ends_stream.ensures ∙ c.if-ends_stream.true),
       refl,
       refl,
     )))
@@ -106,7 +107,7 @@ returns-in_err-follows-clause-held g c = λ calls f holds going.
     let unread = g.T.Input.unread in
     let p = c.args.self.now in
     let e = c.in_err-follows.field-0.0 in
-    let end = not_end (spec.seen_in p.peeked) (ap spec.ends_stream (sym c.seen.ensures) ∙ sym c.ends_stream.ensures
+    let end = not_end (spec.seen_in p.peeked) (ap seeing.ends_stream (sym c.seen.ensures) ∙ sym c.ends_stream.ensures
     ∙ c.if-ends_stream.false) in
     let skipped = c.in_ok-skip.ensures in
     let same = err_from_is_err_and c.from_residual-in_err-follows.result c.from_residual-in_err-follows.ensures.1 in
@@ -120,7 +121,7 @@ returns-clause-held g c = λ calls f holds going.
     let unread = g.T.Input.unread in
     let p = c.args.self.now in
     let open_there : p.over ≡ false = sym (ap (λ (x : Parsing _). x.over) c.self.view_is) ∙ c.if-self.false in
-    let end = not_end (spec.seen_in p.peeked) (ap spec.ends_stream (sym c.seen.ensures) ∙ sym c.ends_stream.ensures
+    let end = not_end (spec.seen_in p.peeked) (ap seeing.ends_stream (sym c.seen.ensures) ∙ sym c.ends_stream.ensures
     ∙ c.if-ends_stream.false) in
     let skipped = c.in_ok-skip.ensures in
     answer_held unread p c.skip.new.self calls f holds going skipped.options skipped.renumbered

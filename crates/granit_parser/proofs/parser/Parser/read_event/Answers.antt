@@ -33,66 +33,66 @@ returns-then-has_failed-clause-calls g c = λ calls reached goes.
 
 pub returns-clause-calls : goal.returns-clause-calls
 returns-clause-calls g c = λ calls reached goes.
-    let error = c.take_source_error-error in
-    let event = c.step_event-event in
-    rw c.unless_failed.ensures (reads_by g.T.Input.unread g.T.Input.origin
+    let error = c.take_source_error in
+    let event = c.step_event in
+    rw c.put_error.ensures (reads_by g.T.Input.unread g.T.Input.origin
     c.args.self.now.stepper event.new.self.stepper error.new.self.stepper event.ensures.moves.1 error.ensures.origin
-    error.result event.result calls error.ensures.given error.ensures.place error.ensures.offset
+    error.result event.new.next calls error.ensures.given error.ensures.place error.ensures.offset
     (λ none. reads_kept g.T.Input.unread event.new.self.stepper error.new.self.stepper error.ensures.options
     error.ensures.renumbered error.ensures.first
     (error.ensures.failed ∙ ap (λ (e : Option Refused). event.new.self.stepper.failed || is_some e) none)
     (λ m at. error.ensures.known m at none) (λ m at. error.ensures.held m at none)
-    (λ m e at. error.ensures.refused m e at none) event.result calls)
+    (λ m e at. error.ensures.refused m e at none) event.new.next calls)
     (event.ensures.calls calls reached goes))
 
 pub returns-clause-known : goal.returns-clause-known
-returns-clause-known g c = λ m at. rw c.unless_failed.ensures (known_by g.T.Input.unread g.T.Input.origin
-    c.args.self.now.stepper c.step_event-event.new.self.stepper c.take_source_error-error.new.self.stepper
-    c.step_event-event.ensures.moves.1 c.take_source_error-error.ensures.origin c.take_source_error-error.result
-    c.step_event-event.result c.args.self.now.stepper.renumbered c.args.self.now.stepper.scanner.options m
-    (c.take_source_error-error.ensures.renumbered ∙ c.step_event-event.ensures.renumbered)
-    c.take_source_error-error.ensures.given c.take_source_error-error.ensures.place
-    c.take_source_error-error.ensures.offset c.take_source_error-error.ensures.known
-    (c.step_event-event.ensures.known m at))
+returns-clause-known g c = λ m at. rw c.put_error.ensures (known_by g.T.Input.unread g.T.Input.origin
+    c.args.self.now.stepper c.step_event.new.self.stepper c.take_source_error.new.self.stepper
+    c.step_event.ensures.moves.1 c.take_source_error.ensures.origin c.take_source_error.result
+    c.step_event.new.next c.args.self.now.stepper.renumbered c.args.self.now.stepper.scanner.options m
+    (c.take_source_error.ensures.renumbered ∙ c.step_event.ensures.renumbered)
+    c.take_source_error.ensures.given c.take_source_error.ensures.place
+    c.take_source_error.ensures.offset c.take_source_error.ensures.known
+    (c.step_event.ensures.known m at))
 
 pub returns-clause-sure : goal.returns-clause-sure
-returns-clause-sure g c = λ m at none. rw c.unless_failed.ensures (sure_by g.T.Input.unread g.T.Input.origin
-    c.args.self.now.stepper c.step_event-event.new.self.stepper c.take_source_error-error.new.self.stepper
-    c.step_event-event.ensures.moves.1 c.take_source_error-error.ensures.origin c.take_source_error-error.result
-    c.step_event-event.result c.args.self.now.stepper.renumbered c.args.self.now.stepper.scanner.options m
-    (c.take_source_error-error.ensures.renumbered ∙ c.step_event-event.ensures.renumbered)
-    c.take_source_error-error.ensures.given c.take_source_error-error.ensures.known none
-    (c.step_event-event.ensures.known m at))
+returns-clause-sure g c = λ m at none. rw c.put_error.ensures (sure_by g.T.Input.unread g.T.Input.origin
+    c.args.self.now.stepper c.step_event.new.self.stepper c.take_source_error.new.self.stepper
+    c.step_event.ensures.moves.1 c.take_source_error.ensures.origin c.take_source_error.result
+    c.step_event.new.next c.args.self.now.stepper.renumbered c.args.self.now.stepper.scanner.options m
+    (c.take_source_error.ensures.renumbered ∙ c.step_event.ensures.renumbered)
+    c.take_source_error.ensures.given c.take_source_error.ensures.known none
+    (c.step_event.ensures.known m at))
 
 pub returns-clause-source : goal.returns-clause-source
-returns-clause-source g c = rw c.unless_failed.ensures (source_by g.T.Input.unread g.T.Input.origin
-    c.args.self.now.stepper c.step_event-event.new.self.stepper c.take_source_error-error.new.self.stepper
-    c.step_event-event.ensures.moves.1 c.take_source_error-error.ensures.origin c.take_source_error-error.result
-    c.step_event-event.result c.take_source_error-error.ensures.given c.take_source_error-error.ensures.place
-    c.take_source_error-error.ensures.offset)
+returns-clause-source g c = rw c.put_error.ensures (source_by g.T.Input.unread g.T.Input.origin
+    c.args.self.now.stepper c.step_event.new.self.stepper c.take_source_error.new.self.stepper
+    c.step_event.ensures.moves.1 c.take_source_error.ensures.origin c.take_source_error.result
+    c.step_event.new.next c.take_source_error.ensures.given c.take_source_error.ensures.place
+    c.take_source_error.ensures.offset)
 
 pub returns-clause-lost : goal.returns-clause-lost
-returns-clause-lost g c = rw c.unless_failed.ensures (lost_by g.T.Input.unread g.T.Input.origin
-    c.args.self.now.stepper c.step_event-event.new.self.stepper c.take_source_error-error.new.self.stepper
-    c.step_event-event.ensures.moves.1 c.take_source_error-error.ensures.origin c.take_source_error-error.result
-    c.step_event-event.result c.take_source_error-error.ensures.given c.take_source_error-error.ensures.failed
-    c.take_source_error-error.ensures.lost c.take_source_error-error.ensures.ended c.step_event-event.ensures.lost)
+returns-clause-lost g c = rw c.put_error.ensures (lost_by g.T.Input.unread g.T.Input.origin
+    c.args.self.now.stepper c.step_event.new.self.stepper c.take_source_error.new.self.stepper
+    c.step_event.ensures.moves.1 c.take_source_error.ensures.origin c.take_source_error.result
+    c.step_event.new.next c.take_source_error.ensures.given c.take_source_error.ensures.failed
+    c.take_source_error.ensures.lost c.take_source_error.ensures.ended c.step_event.ensures.lost)
 
 pub returns-clause-refused : goal.returns-clause-refused
-returns-clause-refused g c = rw c.unless_failed.ensures (ends_by c.take_source_error-error.result
-    c.step_event-event.result c.step_event-event.new.self.stepper c.take_source_error-error.new.self.stepper
-    c.take_source_error-error.ensures.failed c.step_event-event.ensures.refused)
+returns-clause-refused g c = rw c.put_error.ensures (ends_by c.take_source_error.result
+    c.step_event.new.next c.step_event.new.self.stepper c.take_source_error.new.self.stepper
+    c.take_source_error.ensures.failed c.step_event.ensures.refused)
 
 pub returns-clause-moves : goal.returns-clause-moves
 returns-clause-moves g c =
-    let fewer = c.step_event-event.ensures.moves.0 in
-    let left = c.take_source_error-error.ensures.left in
-    rw c.unless_failed.ensures (
+    let fewer = c.step_event.ensures.moves.0 in
+    let left = c.take_source_error.ensures.left in
+    rw c.put_error.ensures (
       omega (arith, fewer, left),
       goes_by g.T.Input.unread g.T.Input.origin
-          c.args.self.now.stepper c.step_event-event.new.self.stepper c.take_source_error-error.new.self.stepper
-          c.step_event-event.ensures.moves.1 c.take_source_error-error.ensures.origin c.take_source_error-error.result
-          c.step_event-event.result c.take_source_error-error.ensures.given,
+          c.args.self.now.stepper c.step_event.new.self.stepper c.take_source_error.new.self.stepper
+          c.step_event.ensures.moves.1 c.take_source_error.ensures.origin c.take_source_error.result
+          c.step_event.new.next c.take_source_error.ensures.given,
     )
 
 pub returns-then-has_failed-clause-waits : goal.returns-then-has_failed-clause-waits
@@ -101,14 +101,14 @@ returns-then-has_failed-clause-waits g c = λ m f held.
 
 pub returns-clause-waits : goal.returns-clause-waits
 returns-clause-waits g c = λ m f held.
-    let error = c.take_source_error-error in
-    let event = c.step_event-event in
-    rw c.unless_failed.ensures (waits_by g.T.Input.unread g.T.Input.origin
+    let error = c.take_source_error in
+    let event = c.step_event in
+    rw c.put_error.ensures (waits_by g.T.Input.unread g.T.Input.origin
     c.args.self.now.stepper event.new.self.stepper error.new.self.stepper event.ensures.moves.1 error.ensures.origin
-    error.result event.result m f error.ensures.given error.ensures.place error.ensures.offset
+    error.result event.new.next m f error.ensures.given error.ensures.place error.ensures.offset
     (λ none. waits_kept g.T.Input.unread event.new.self.stepper error.new.self.stepper error.ensures.ahead
     (error.ensures.failed ∙ ap (λ (e : Option Refused). event.new.self.stepper.failed || is_some e) none)
-    (λ m e at. error.ensures.refused m e at none) event.result m f) (event.ensures.waits m f held))
+    (λ m e at. error.ensures.refused m e at none) event.new.next m f) (event.ensures.waits m f held))
 
 pub returns-then-has_failed-clause-at_once : goal.returns-then-has_failed-clause-at_once
 returns-then-has_failed-clause-at_once g c = record {
@@ -120,8 +120,8 @@ returns-then-has_failed-clause-at_once g c = record {
 
 pub returns-clause-at_once : goal.returns-clause-at_once
 returns-clause-at_once g c =
-    let error = c.take_source_error-error in
-    let event = c.step_event-event in
-    rw c.unless_failed.ensures (at_once_by g.T.Input.origin c.args.self.now.stepper event.new.self.stepper
-    error.new.self.stepper event.ensures.moves.1 error.ensures.origin event.result event.ensures.waiting
+    let error = c.take_source_error in
+    let event = c.step_event in
+    rw c.put_error.ensures (at_once_by g.T.Input.origin c.args.self.now.stepper event.new.self.stepper
+    error.new.self.stepper event.ensures.moves.1 error.ensures.origin event.new.next event.ensures.waiting
     event.ensures.ended error.result error.ensures.given error.ensures.place error.ensures.offset error.ensures.rest)

@@ -6,7 +6,8 @@ use Rattle.granit_parser.proofs.HeldLemmas.{held_then, holds_changed}
 use Rattle.granit_parser.specs.Holding.{keeping_tags}
 use Rattle.granit_parser.specs.Parsing.{Parsing}
 use Rattle.granit_stepper.specs.Offset.{with_offset}
-use Rattle.granit_stepper.specs.Refusals.{StandsRefused, recounted}
+use Rattle.granit_refusals.specs.BeforeTurn.{recounted}
+use Rattle.granit_stepper.specs.Refusals.{StandsRefused}
 use Rattle.granit_stepper.specs.Stepping.{StandsIn, Stepping}
 use Rattle.granit_steps.specs.Steps.{StepState}
 use Rattle.granit_parser.proofs.parser.Parser.set_anchor_offset.Goals as goal

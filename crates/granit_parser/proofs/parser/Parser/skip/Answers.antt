@@ -8,7 +8,7 @@ use Rattle.granit_parser.proofs.HeldRecoverLemmas.{end_dropped as end_goes, look
 use Rattle.granit_parser.proofs.parser.Parser.skip.Goals as goal
 use Rattle.granit_parser.specs.Holding.{FaultLacksNumber, held_behind, stays_seen}
 use Rattle.granit_parser.specs.Parsing.{Parsing}
-use Rattle.granit_parser.specs.Recovering as spec
+use Rattle.granit_seen.specs.Seeing as seeing
 use Rattle.granit_parser.specs.Recovering.{IsOpen, SkipsWaiting, stays_by}
 use Rattle.granit_restart.specs.Skipping.{with_pending}
 use Rattle.granit_restart.specs.Turned.{Turned, turned_with}
@@ -40,7 +40,7 @@ returns-then-stays-clause-known g c = λ calls reached at over refusal end.
     none_dropped g.T.Input.unread p calls reached at over refusal (c.a_look_tells_where_recovery_asks.ensures.here o)
     (c.calls_go_by_turns.ensures o) (c.a_comment_takes_room_where_recovery_asks.ensures.here o)
     (sym c.has_failed.ensures ∙ c.if-has_failed.false)
-    (ap (λ s. p.between && not (spec.seen_starts_document s)) (sym c.seen-seen.ensures)
+    (ap (λ s. p.between && not (seeing.seen_starts_document s)) (sym c.seen-seen.ensures)
     ∙ sym c.stays.ensures ∙ c.if-stays.true) end
 
 pub returns-then-ends-clause-known : goal.returns-then-ends-clause-known
@@ -50,9 +50,9 @@ returns-then-ends-clause-known g c = λ calls reached at over refusal end.
     end_dropped g.T.Input.unread p calls reached at over refusal (c.a_look_tells_where_recovery_asks.ensures.here o)
     (c.calls_go_by_turns.ensures o) c.forget.new.self c.forget.ensures
     (sym c.has_failed.ensures ∙ c.if-has_failed.false)
-    (ap (λ s. p.between && not (spec.seen_starts_document s)) (sym c.seen-seen.ensures)
+    (ap (λ s. p.between && not (seeing.seen_starts_document s)) (sym c.seen-seen.ensures)
     ∙ sym c.stays.ensures ∙ c.if-stays.false)
-    (ap spec.seen_ends_document (sym c.seen-seen.ensures) ∙ sym c.ends.ensures ∙ c.if-ends.true)
+    (ap seeing.seen_ends_document (sym c.seen-seen.ensures) ∙ sym c.ends.ensures ∙ c.if-ends.true)
 
 pub returns-clause-known : goal.returns-clause-known
 returns-clause-known g c = λ calls reached at over refusal end.
@@ -72,9 +72,9 @@ returns-clause-known g c = λ calls reached at over refusal end.
     }) c.skip_document.ensures.options (ap (λ (x : Parsing _). x.peeked) same)
     c.skip_document.result c.skip_document.ensures.first (c.a_look_tells_where_recovery_asks.ensures.looked o)
     (sym c.has_failed.ensures ∙ c.if-has_failed.false)
-    (ap (λ s. p.between && not (spec.seen_starts_document s)) (sym c.seen-seen.ensures)
+    (ap (λ s. p.between && not (seeing.seen_starts_document s)) (sym c.seen-seen.ensures)
     ∙ sym c.stays.ensures ∙ c.if-stays.false)
-    (ap spec.seen_ends_document (sym c.seen-seen.ensures) ∙ sym c.ends.ensures ∙ c.if-ends.false) end
+    (ap seeing.seen_ends_document (sym c.seen-seen.ensures) ∙ sym c.ends.ensures ∙ c.if-ends.false) end
     c.skip_document.ensures.known
 
 pub returns-then-has_failed-clause-held : goal.returns-then-has_failed-clause-held
@@ -92,7 +92,7 @@ returns-then-stays-clause-held g c = λ calls f holds going end.
     let unread = g.T.Input.unread in
     let p = c.args.self.now in
     let stays : stays_by p.between p.peeked ≡ true =
-    ap (λ s. p.between && not (spec.seen_starts_document s)) (sym c.seen-seen.ensures)
+    ap (λ s. p.between && not (seeing.seen_starts_document s)) (sym c.seen-seen.ensures)
     ∙ sym c.stays.ensures ∙ c.if-stays.true in
     inl (subst (λ (b : Bool). SkipsWaiting unread p.stepper.scanner.cursor (is_some p.peeked) f
     (held_behind b f calls.steps) p) (sym stays) holds.waits)
@@ -101,7 +101,7 @@ pub returns-then-stays-clause-looked : goal.returns-then-stays-clause-looked
 returns-then-stays-clause-looked g c = λ going.
     let p = c.args.self.now in
     let stays : stays_by p.between p.peeked ≡ true =
-    ap (λ s. p.between && not (spec.seen_starts_document s)) (sym c.seen-seen.ensures)
+    ap (λ s. p.between && not (seeing.seen_starts_document s)) (sym c.seen-seen.ensures)
     ∙ sym c.stays.ensures ∙ c.if-stays.true in
     ap (λ (b : Bool). stays_seen b p.peeked) (sym stays)
 
@@ -111,19 +111,19 @@ returns-then-ends-clause-held g c = λ calls f holds going end.
     let p = c.args.self.now in
     let q = c.forget.new.self in
     let stays : stays_by p.between p.peeked ≡ false =
-    ap (λ s. p.between && not (spec.seen_starts_document s)) (sym c.seen-seen.ensures)
+    ap (λ s. p.between && not (seeing.seen_starts_document s)) (sym c.seen-seen.ensures)
     ∙ sym c.stays.ensures ∙ c.if-stays.false in
     inl (subst (λ (b : Bool). SkipsWaiting unread p.stepper.scanner.cursor (is_some p.peeked) f
     (held_behind b f calls.steps) q) (sym stays)
     (end_goes unread p.stepper.scanner.cursor (is_some p.peeked) p.peeked p.stepper q calls.steps f
     (ap (λ (x : Parsing _). x.stepper) c.forget.ensures) (ap (λ (x : Parsing _). x.peeked) c.forget.ensures)
-    (ap spec.seen_ends_document (sym c.seen-seen.ensures) ∙ sym c.ends.ensures ∙ c.if-ends.true) holds.waits))
+    (ap seeing.seen_ends_document (sym c.seen-seen.ensures) ∙ sym c.ends.ensures ∙ c.if-ends.true) holds.waits))
 
 pub returns-then-ends-clause-looked : goal.returns-then-ends-clause-looked
 returns-then-ends-clause-looked g c = λ going.
     let p = c.args.self.now in
     let stays : stays_by p.between p.peeked ≡ false =
-    ap (λ s. p.between && not (spec.seen_starts_document s)) (sym c.seen-seen.ensures)
+    ap (λ s. p.between && not (seeing.seen_starts_document s)) (sym c.seen-seen.ensures)
     ∙ sym c.stays.ensures ∙ c.if-stays.false in
     ap (λ (x : Parsing _). x.peeked) c.forget.ensures ∙ ap (λ (b : Bool). stays_seen b p.peeked) (sym stays)
 
@@ -145,11 +145,11 @@ returns-clause-held g c = λ calls f holds going end.
       answered = c.self-2.inside.answered;
     } in
     let stays : stays_by p.between p.peeked ≡ false =
-    ap (λ s. p.between && not (spec.seen_starts_document s)) (sym c.seen-seen.ensures)
+    ap (λ s. p.between && not (seeing.seen_starts_document s)) (sym c.seen-seen.ensures)
     ∙ sym c.stays.ensures ∙ c.if-stays.false in
     let open_calls : IsOpen calls = record { over = going; fault = holds.fault; refusal = holds.refusal } in
     let there = waits_there unread p.peeked p.stepper calls.steps f
-    (ap spec.seen_ends_document (sym c.seen-seen.ensures) ∙ sym c.ends.ensures ∙ c.if-ends.false) end holds.waits in
+    (ap seeing.seen_ends_document (sym c.seen-seen.ensures) ∙ sym c.ends.ensures ∙ c.if-ends.false) end holds.waits in
     let turned = held.held_turned p.stepper.renumbered o calls f open_calls holds.fails c.calls_go_by_turns.ensures in
     let options : q.stepper.scanner.options ≡ o =
     c.skip_document.ensures.options ∙ ap (λ (s : Stepping _). s.scanner.options) stepper in
@@ -175,7 +175,7 @@ returns-clause-looked g c = λ going.
     let p = c.args.self.now in
     let same = c.self-2.view_is ∙ c.forget.ensures in
     let stays : stays_by p.between p.peeked ≡ false =
-    ap (λ s. p.between && not (spec.seen_starts_document s)) (sym c.seen-seen.ensures)
+    ap (λ s. p.between && not (seeing.seen_starts_document s)) (sym c.seen-seen.ensures)
     ∙ sym c.stays.ensures ∙ c.if-stays.false in
     looked_ok c.skip_document.result (ap (λ (x : Parsing _). x.peeked) same
     ∙ ap (λ (b : Bool). stays_seen b p.peeked) (sym stays))

@@ -4,7 +4,7 @@ use Rattle.granit_restart.specs.Turned.{Turned}
 use Rattle.granit_stepper.specs.Recovering.{RestartsIn}
 use Rattle.granit_stepper.specs.Refusals.{StandsRefused}
 use Rattle.granit_stepper.specs.Stepping.{Stepping}
-use Rattle.granit_stepper.specs.declared.refusal.Refusal.{Refusal}
+use Rattle.granit_refusals.specs.declared.refusal.Refusal.{Refusal}
 use Rattle.granit_stepper.proofs.stepper.Stepper.restart.Goals as goal
 
 pub returns-in-Some-clause-known : goal.returns-in-Some-clause-known

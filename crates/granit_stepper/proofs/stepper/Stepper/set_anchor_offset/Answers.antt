@@ -1,7 +1,8 @@
 use Rattle.std.proofs.Common.{◌<◌, ◌-◌, ◌^◌, Some, arith, sym, ap, subst, ◌∙◌}
 use Rattle.std.specs.Option.{option_map}
 use Rattle.granit_stepper.proofs.RefusalLemmas.{stands_recounted}
-use Rattle.granit_stepper.specs.Refusals.{StandsRefused, recounted}
+use Rattle.granit_refusals.specs.BeforeTurn.{recounted}
+use Rattle.granit_stepper.specs.Refusals.{StandsRefused}
 use Rattle.granit_stepper.specs.Stepping.{Stepping}
 use Rattle.granit_stepper.proofs.stepper.Stepper.set_anchor_offset.Goals as goal
 use Rattle.granit_stepper.proofs.stepper.Stepper.set_anchor_offset.Goals.{in-Some, in_default}

@@ -6,7 +6,8 @@ use Rattle.granit_machine.specs.Frames.{ParserState}
 use Rattle.granit_machine.specs.Leaving.{LeavesIfRoom}
 use Rattle.granit_machine.specs.Parser.{take_item}
 use Rattle.granit_scanner.specs.Scans.{front_view}
-use Rattle.granit_stepper.specs.Refusals.{RefusedItem, whole}
+use Rattle.granit_refusals.specs.BeforeTurn.{whole}
+use Rattle.granit_stepper.specs.Refusals.{RefusedItem}
 use Rattle.granit_stepper.specs.Stepping.{Stepping, StandsIn}
 use Rattle.granit_stepper.proofs.EarlyLemmas.{early_fed, early_not_fed}
 use Rattle.granit_stepper.proofs.ItemLemmas.{item_fed, item_kept, item_not_fed, item_tags}

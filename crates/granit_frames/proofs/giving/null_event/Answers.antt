@@ -1,7 +1,0 @@
-use Rattle.std.proofs.Common.{refl}
-use Rattle.std.specs.Str.{chars}
-use Rattle.granit_frames.proofs.giving.null_event.Goals as goal
-
-pub returns : goal.returns
-unfolding chars
-returns c = rw c.borrowed.ensures refl

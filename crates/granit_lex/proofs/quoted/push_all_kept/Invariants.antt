@@ -1,6 +1,0 @@
-use Rattle.std.proofs.Common.{◌≡◌}
-use Rattle.granit_lex.specs.QuotedCode.{kept_chars}
-use Rattle.granit_lex.proofs.quoted.push_all_kept.Given as goal
-
-abbrev pub invariant-loop-c : goal.invariant-loop-c
-invariant-loop-c l = l.parts ≡ kept_chars l.initial.parts l.yielded

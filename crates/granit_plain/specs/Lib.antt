@@ -1,0 +1,4 @@
+pub mod LineCode
+pub mod PlainCode
+pub mod PlainMemory
+pub mod PlainTaken

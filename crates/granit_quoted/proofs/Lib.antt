@@ -1,0 +1,6 @@
+pub mod EscapeLemmas
+pub mod KeptLemmas
+pub mod MemoryLemmas
+pub mod QuotedLemmas
+pub mod RemarkLemmas
+pub mod SeenQuoted

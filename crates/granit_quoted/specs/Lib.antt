@@ -1,0 +1,3 @@
+pub mod QuotedCode
+pub mod QuotedMemory
+pub mod QuotedTaken

@@ -1,0 +1,10 @@
+pub mod AsciiLemmas
+pub mod HoldsLemmas
+pub mod LaneLemmas
+pub mod LineLemmas
+pub mod PrintableLemmas
+pub mod QuoteLemmas
+pub mod RunLemmas
+pub mod StringLemmas
+pub mod WhiteLemmas
+pub mod WordLemmas

@@ -1,0 +1,15 @@
+use Rattle.std.proofs.Common.{◌≤◌, ◌-◌}
+use Rattle.granit_runs.specs.Cuts.{IsAsciiFront}
+use Rattle.granit_runs.specs.Runs.{run_test}
+use Rattle.granit_runs.specs.Words.{ShowsFront}
+use Rattle.granit_runs.proofs.cuts.ascii_lanes.Given as goal
+
+abbrev pub invariant-lanes : goal.invariant-lanes
+invariant-lanes l = record {
+  front : IsAsciiFront (run_test l.run) l.s l.count;
+  limit : l.count ≤ l.end;
+  shown : ShowsFront l.run l.s l.count;
+}
+
+abbrev pub decreases-lanes : goal.decreases-lanes
+decreases-lanes l = l.end - l.count

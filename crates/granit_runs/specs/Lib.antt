@@ -1,0 +1,9 @@
+pub mod Chunks
+pub mod Cuts
+pub mod Lanes
+pub mod Lines
+pub mod Quotes
+pub mod Runs
+pub mod Unread
+pub mod White
+pub mod Words
