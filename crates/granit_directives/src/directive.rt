@@ -10,7 +10,7 @@ ghost use Rattle.granit_lexemes.specs.Directive as spec;
 ghost use Rattle.granit_lexemes.specs.DirectiveExtent as extent;
 ghost use Rattle.granit_lexemes.specs.Here.{Here, mark_of, next_char};
 ghost use Rattle.granit_lexemes.specs.Lexeme.{DirectiveKind};
-ghost use Rattle.granit_names.specs.FirstCause.{DirectiveCause};
+ghost use Rattle.granit_lexemes.specs.DirectiveCause.{DirectiveCause};
 ghost use Rattle.granit_directives.specs.DirectiveCode.{IsDirectiveKind, directive_lexed, kind_type};
 ghost use Rattle.granit_properties.specs.UriCode.{budget_of};
 

@@ -1,7 +1,7 @@
 -- What contracts see of an error: what is wrong, where, and the names of the sources that were being read; and what is
 -- printed of it.
-use Rattle.std.specs.Prelude.{ℕ, Bool, ◌&&◌, ◌==◌, not, if◌then◌else◌, nat_lt, ◌+◌, ◌-◌, ◌^◌, min, List, [], ◌∷◌, ◌++◌}
-use Rattle.std.specs.Prelude.{length, codes, Result, Ok, Err, Option, None, Some}
+use Rattle.std.specs.Prelude.{◌≡◌, ℕ, Bool, ◌&&◌, ◌==◌, not, if◌then◌else◌, nat_lt, ◌+◌, ◌-◌, ◌^◌, min, List, [], ◌∷◌}
+use Rattle.std.specs.Prelude.{◌++◌, length, codes, Result, Ok, Err, Option, None, Some}
 use Rattle.std.specs.Fmt.{decimal}
 use Rattle.std.specs.List.{flat_map}
 use Rattle.std.specs.Str.{encode_utf8_all}
@@ -9,7 +9,7 @@ use Rattle.std.specs.Cmp.{IsEquivalence, and_equiv, on_equiv, nat_eq_equiv}
 use Rattle.std.proofs.lemmas.Cmp.{lists_equiv, nat_list_eq_equiv}
 use Rattle.granit_base.specs.Place.{Place, Mark, same_place}
 use Rattle.granit_base.specs.Written.{Written, same_texts}
-use Rattle.granit_error.specs.FaultKind.{FaultKind, InputIo, fault_words}
+use Rattle.granit_error.specs.FaultKind.{FaultKind, InputIo, NoMemory, fault_words}
 use Rattle.granit_error.specs.SameFault.{same_fault, same_fault_equiv}
 
 pub record Refused : Type 0 where
@@ -68,3 +68,8 @@ same_refused_equiv =
 
 abbrev pub refused_kind : Refused → FaultKind
 refused_kind e = e.kind
+
+-- unless memory ran out
+abbrev pub UnlessMemory : {X : Type 0} → Result X Refused → Type 0 → Type 0
+UnlessMemory (Ok x) Holds = Holds
+UnlessMemory (Err e) Holds = (e.kind ≡ NoMemory → ⊥) → Holds

@@ -22,7 +22,7 @@ use granit_base::{NoMemory, Span};
 use granit_error::{Options, ScanError};
 use granit_event::Event;
 use granit_frames::{Frame, ParserState, Token, Top, token_sort};
-use granit_items::{Item, Lexeme, LexemeKind, Note, Rooms};
+use granit_items::{Item, Lexeme, LexemeKind, Note, Rooms, clone_tail};
 use granit_nodes::node;
 use granit_refused::Refused;
 use std::alloc::Global;
@@ -66,36 +66,6 @@ fn take_token<'input>(
         Top::In(Frame::FlowPair(stage), _) => in_flow_pair(
             state, fault, alloc, options, token, stage,
         ),
-    }
-}
-
-/// An equal comment.
-fn clone_note<'input>(alloc: Global, note: &Note<'input>) -> Result<Note<'input>, NoMemory>
-    ensures { IfOk result (λ n. n ≡ note.now) }
-{
-    Ok(Note {
-        text: note.text.try_clone(alloc)?,
-        start: note.start,
-        end: note.end,
-        is_right: note.is_right,
-    })
-}
-
-/// The comment behind a lexeme once more.
-///
-/// # Errors
-///
-/// `NoMemory` alone.
-pub fn clone_tail<'input>(
-    alloc: Global,
-    tail: &Option<Box<Note<'input>>>,
-) -> Result<Option<Box<Note<'input>>>, NoMemory>
-    ensures value { IfOk result (λ t. option_map boxed_view t ≡ option_map boxed_view tail.now) }
-    ensures none { tail.now ≡ None → IsOk result }
-{
-    match tail {
-        None => Ok(None),
-        Some(note) => Ok(Some(Box::new(alloc, clone_note(alloc, note)?)?)),
     }
 }
 

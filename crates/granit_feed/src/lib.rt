@@ -7,5 +7,5 @@ mod feeding;
 mod flow;
 mod stream;
 
-pub use feeding::{clone_tail, feed};
+pub use feeding::feed;
 pub use granit_frames::ParserState;

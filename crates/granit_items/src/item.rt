@@ -1,7 +1,12 @@
 //! What a reader gives: lexemes with their tails, and comments.
+ghost use Rattle.std.specs.Prelude.{◌≡◌, None, IfOk, IsOk};
+ghost use Rattle.std.specs.Option.{option_map};
+ghost use Rattle.granit_items.specs.ItemViews.{boxed_view, kind_view};
+ghost use Rattle.granit_lexemes.specs.Lexeme as lexemes;
 
-use granit_base::{Marker, ScalarStyle, Text, TextList};
+use granit_base::{Marker, NoMemory, ScalarStyle, Text, TextList};
 use granit_lexemes::Bracket;
+use std::alloc::Global;
 
 /// What a lexeme is, with its value.
 #[derive(Drop)]
@@ -38,6 +43,16 @@ pub enum LexemeKind<'input> {
     Tag(Text<'input>, Text<'input>),
     /// A scalar by how it is written, and its value (YAML 1.2.2, 7.3 and 8.1).
     Scalar(ScalarStyle, Text<'input>),
+}
+
+/// Whether a lexeme is a directive.
+pub fn is_directive(kind: &LexemeKind<'_>) -> bool
+    ensures { result ≡ lexemes.is_directive (kind_view kind.now) }
+{
+    matches!(
+        kind,
+        LexemeKind::Version(_, _) | LexemeKind::TagPrefix(_, _) | LexemeKind::Reserved(_, _)
+    )
 }
 
 /// A comment (YAML 1.2.2, 6.6).
@@ -125,6 +140,36 @@ pub struct Found<'input> {
     pub lexeme: Box<Lexeme<'input>>,
     /// The comment, which stands behind the lexeme.
     pub note: Option<Box<Note<'input>>>,
+}
+
+/// An equal comment.
+fn clone_note<'input>(alloc: Global, note: &Note<'input>) -> Result<Note<'input>, NoMemory>
+    ensures { IfOk result (λ n. n ≡ note.now) }
+{
+    Ok(Note {
+        text: note.text.try_clone(alloc)?,
+        start: note.start,
+        end: note.end,
+        is_right: note.is_right,
+    })
+}
+
+/// The comment behind a lexeme once more.
+///
+/// # Errors
+///
+/// `NoMemory` alone.
+pub fn clone_tail<'input>(
+    alloc: Global,
+    tail: &Option<Box<Note<'input>>>,
+) -> Result<Option<Box<Note<'input>>>, NoMemory>
+    ensures value { IfOk result (λ t. option_map boxed_view t ≡ option_map boxed_view tail.now) }
+    ensures none { tail.now ≡ None → IsOk result }
+{
+    match tail {
+        None => Ok(None),
+        Some(note) => Ok(Some(Box::new(alloc, clone_note(alloc, note)?)?)),
+    }
 }
 
 /// A lexeme with its tail, or a comment that is no lexeme's tail.

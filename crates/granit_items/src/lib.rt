@@ -4,5 +4,5 @@
 mod item;
 mod rooms;
 
-pub use item::{Found, Item, KeyStart, Lexeme, LexemeKind, Note};
+pub use item::{Found, Item, KeyStart, Lexeme, LexemeKind, Note, clone_tail, is_directive};
 pub use rooms::Rooms;

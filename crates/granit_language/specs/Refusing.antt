@@ -34,7 +34,7 @@ use Rattle.granit_machine.specs.LexemeSort.{ColonSign, AliasSign, AnchorSign, Ta
 use Rattle.granit_machine.specs.LexemeSort.{NoSign, PlainSign, LexemeSort, TextEnd, StartMark, EndMark, Unprintable}
 use Rattle.granit_machine.specs.LexemeSort.{DirectiveSign, Placed}
 use Rattle.granit_machine.specs.PossibleKeys.{top_key}
-use Rattle.granit_names.specs.FirstCause.{DirectiveCause}
+use Rattle.granit_lexemes.specs.DirectiveCause.{DirectiveCause}
 use Rattle.granit_language.specs.Allowed.{InFlow, OutsideFlow, EntryMayBegin, TooMany, EntryFits, FarBelow}
 use Rattle.granit_language.specs.Allowed.{DashBehindTab, NulBehind, OpenerBehind, GoesOnBehind, TabBegins, LeftOfKey}
 use Rattle.granit_language.specs.Allowed.{InBlock, TabsFit, LeftInside, MayPrefix, LayoutIs}

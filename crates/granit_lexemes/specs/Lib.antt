@@ -7,6 +7,7 @@ pub mod BlockValue
 pub mod Comment
 pub mod Decoding
 pub mod Directive
+pub mod DirectiveCause
 pub mod DirectiveExtent
 pub mod Folding
 pub mod Gap

@@ -5,9 +5,9 @@ use Rattle.granit_error.specs.OptionsData.{OptionsData}
 use Rattle.granit_error.specs.Refused.{Refused}
 use Rattle.granit_input.specs.Origin.{Origin}
 use Rattle.granit_lexemes.specs.PlainEvent.{PlainEvent}
-use Rattle.granit_load.specs.Answering.{GivesAllOr, LeavesNumbers}
+use Rattle.granit_load.specs.Answering.{GivesAllOr}
+use Rattle.granit_parser.specs.Parsing.{LeavesNumbers, LeadsTo, Parsing}
 use Rattle.granit_parser.specs.Gathering.{LeadsOut, RefusesLate}
-use Rattle.granit_parser.specs.Parsing.{LeadsTo, Parsing}
 use Rattle.granit_parser.specs.Receiving.{RefusalIn}
 use Rattle.granit_parser.specs.Sources.{IsSourceError}
 use Rattle.granit_parser.proofs.TextLemmas.{given_behind}

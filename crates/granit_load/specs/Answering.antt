@@ -1,8 +1,7 @@
 -- What a call answers that gives all events, and how it is refused.
-use Rattle.std.specs.Prelude.{◌≡◌, ◌⊎◌, ◌<◌, ℕ, Bool, true, false, List, Option, None, Some}
+use Rattle.std.specs.Prelude.{◌≡◌, ◌⊎◌, ℕ, Bool, true, false, List, Option, None, Some}
 use Rattle.std.specs.Prelude.{Result, Ok, Err, [], IfOk, IfErr, is_some}
 use Rattle.granit_buffered.specs.Fallible.{characters_of, first_error}
-use Rattle.granit_base.specs.Counts.{last_count}
 use Rattle.granit_base.specs.Place.{Unread}
 use Rattle.granit_cursor.specs.Reading.{Reading, CameOn}
 use Rattle.granit_error.specs.FaultKind.{FaultKind, NoMemory}
@@ -28,10 +27,6 @@ use Rattle.granit_steps.specs.Told.{GivesEvents}
 abbrev pub GivesAll : {V : Type 0} → (V → List PlainEvent) → OptionsData → StepState → Result V Refused → Type 0
 GivesAll view o m (Ok v) = GivesEvents o m (view v) None
 GivesAll view o m (Err e) = (e.kind ≡ NoMemory → ⊥) → (es : List PlainEvent) × GivesEvents o m es (Some e)
-
--- behind these events fewer anchors are counted than the greatest number of 64 bits
-abbrev pub LeavesNumbers : OptionsData → StepState → List PlainEvent → Type 0
-LeavesNumbers o m es = (n : StepState) × LeadsTo o m es n × (n.parser.count < last_count)
 
 -- behind some events no number is left for an anchor
 abbrev pub LacksNumber : OptionsData → StepState → Refused → Type 0

@@ -22,8 +22,8 @@ use Rattle.granit_lexemes.specs.QuotedScalar.{over_break, quoted_piece, quoted_c
 use Rattle.granit_lexemes.specs.QuotedScalar.{quoted_read, asked_comment, behind_quoted, quoted_tail, quoted_rest}
 use Rattle.granit_lexemes.specs.QuotedScalar.{quoted_text}
 use Rattle.granit_lexemes.specs.QuotedScalar.{quoted_scalar}
-use Rattle.granit_scalars.proofs.PlainTurns.{Turned, past_a_blank, past_a_break, at_a_comment, at_a_tab, at_a_line}
-use Rattle.granit_scalars.proofs.PlainTurns.{past_content, at_no_content, turned}
+use Rattle.granit_lexemes.proofs.PlainTurned.{Turned, past_a_blank, past_a_break, at_a_comment, at_a_tab, at_a_line}
+use Rattle.granit_lexemes.proofs.PlainTurned.{past_content, at_no_content, turned}
 use Rattle.granit_machine.proofs.BlockLengths.{only_printable-fits}
 use Rattle.granit_machine.proofs.LengthLemmas.{Fits, fits_if, fits_bind, turns-fits, then_more-fits, pieces-fits}
 use Rattle.granit_machine.proofs.LengthLemmas.{here_if, step-fits, step-less, past-fits, past_break-fits, comment-fits}

@@ -30,7 +30,7 @@ use Rattle.granit_lexemes.specs.DirectiveExtent.{many_words, WrongDirective, nam
 use Rattle.granit_names.proofs.Runs.{count_over, text_over}
 use Rattle.granit_names.proofs.VersionLaw.{all_over, all_past, VersionRead, read_version, wrong_version as no_version}
 use Rattle.granit_names.proofs.VersionLaw.{version_reads, version_is}
-use Rattle.granit_names.specs.FirstCause.{FirstBehind, FirstWrong}
+use Rattle.granit_lexemes.specs.DirectiveCause.{FirstBehind, FirstWrong}
 use Rattle.granit_names.proofs.FirstTag.{TagFirst, stands, wrong_first, limit_first, tag_firsts}
 use Rattle.granit_names.proofs.HandleOnce.{tag_is}
 use Rattle.granit_names.proofs.ReservedLaw.{no_word_nul, budget, WordsRead, read, too_long, too_wide, too_many}

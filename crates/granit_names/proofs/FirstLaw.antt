@@ -25,7 +25,7 @@ use Rattle.granit_lexemes.specs.Lexeme.{DirectiveKind, Version}
 use Rattle.granit_lexemes.specs.Outcome.{Fault, fault_at, ◌>>=◌}
 use Rattle.granit_lexemes.specs.PlainExtent.{over}
 use Rattle.granit_lexemes.specs.Tags.{Budget}
-use Rattle.granit_names.specs.FirstCause.{FirstBehind, FirstWrong, ComesFirst, DirectiveCause}
+use Rattle.granit_lexemes.specs.DirectiveCause.{FirstBehind, FirstWrong, ComesFirst, DirectiveCause}
 use Rattle.granit_names.proofs.DirectiveLaw.{name_run, behind_is, name_read, name_place, yaml_of, prefix_of}
 use Rattle.granit_names.proofs.DirectiveLaw.{reserved_of}
 use Rattle.granit_names.proofs.DirectiveLaw.{directive_is}

@@ -16,7 +16,7 @@ use Rattle.granit_lexemes.specs.Lexeme.{DirectiveKind, TagPrefix}
 use Rattle.granit_lexemes.specs.Outcome.{Fault, fault_at}
 use Rattle.granit_lexemes.specs.PlainExtent.{over}
 use Rattle.granit_lexemes.specs.TagExtent.{WrongEscapes, digits, inside, leading, trailing, no_character}
-use Rattle.granit_names.specs.FirstCause.{escapes_read, prefix_read}
+use Rattle.granit_lexemes.specs.DirectiveCause.{escapes_read, prefix_read}
 use Rattle.granit_names.proofs.HandleLaw.{is_uri_or_blank, tag_uri, blank_part, uri_part, each_as, part_bytes, bang_uri}
 use Rattle.granit_names.proofs.HandleLaw.{PrefixLineRead, read_tag, wrong_tag, passed_tag, tag_reads}
 use Rattle.granit_names.proofs.HandleOnce.{ends_no_uri, handle_each}

@@ -20,7 +20,7 @@ use Rattle.granit_lexemes.specs.TagExtent.{byte_of, Escapes, no_more, one_more, 
 use Rattle.granit_lexemes.specs.TagExtent.{WrongEscapes, digits, inside, leading, trailing, no_character}
 use Rattle.granit_lexemes.specs.Tags.{Budget, spent, UriState, is_utf8, escaped_byte, bytes_behind, trailing_bytes}
 use Rattle.granit_lexemes.specs.Tags.{spelled_char, escaped_by}
-use Rattle.granit_names.specs.FirstCause.{escapes_read}
+use Rattle.granit_lexemes.specs.DirectiveCause.{escapes_read}
 use Rattle.granit_names.proofs.Escaped.{utf8_is, char_utf8, chars_one}
 use Rattle.granit_names.proofs.Kept.{held}
 use Rattle.granit_names.proofs.Spelling.{rows}

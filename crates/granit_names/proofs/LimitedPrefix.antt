@@ -16,7 +16,7 @@ use Rattle.granit_lexemes.specs.PlainExtent.{over}
 use Rattle.granit_lexemes.specs.TagExtent.{byte_of, SpellsBytes, nothing, itself, percent, SpellsText, Escapes, no_more}
 use Rattle.granit_lexemes.specs.TagExtent.{one_more, WrongEscapes}
 use Rattle.granit_lexemes.specs.Tags.{Budget, spent, UriState, uri_turn, decoded}
-use Rattle.granit_names.specs.FirstCause.{escapes_read}
+use Rattle.granit_lexemes.specs.DirectiveCause.{escapes_read}
 use Rattle.granit_names.proofs.Decoded.{decoded_is}
 use Rattle.granit_names.proofs.Escaped.{free}
 use Rattle.granit_names.proofs.HandleLaw.{as_long}

@@ -23,7 +23,7 @@ use Rattle.granit_lexemes.specs.Outcome.{Fault, fault_at, ◌>>=◌}
 use Rattle.granit_lexemes.specs.PlainExtent.{over}
 use Rattle.granit_lexemes.specs.TagExtent.{SpellsText, WrongEscapes}
 use Rattle.granit_lexemes.specs.Tags.{Budget, spent, UriState, decoded}
-use Rattle.granit_names.specs.FirstCause.{escapes_read, prefix_read}
+use Rattle.granit_lexemes.specs.DirectiveCause.{escapes_read, prefix_read}
 use Rattle.granit_names.proofs.HandleLaw.{tag_uri, bang_uri}
 use Rattle.granit_names.proofs.HandleOnce.{uri_no_blank, blanks_ok, bang_at, handle_is, decoded_kept, handle_no_blank}
 use Rattle.granit_names.proofs.HandleOnce.{behind_bang, bang_blank}

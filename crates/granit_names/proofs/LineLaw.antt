@@ -28,7 +28,7 @@ use Rattle.granit_lexemes.proofs.HereLemmas.{not_empty}
 use Rattle.granit_scalars.proofs.Comments.{steps_text, comment_reads, comment_answered}
 use Rattle.granit_scalars.proofs.Nameless.{IsNameless, comment_none}
 use Rattle.granit_scalars.proofs.QuotedEscapes.{over_text}
-use Rattle.granit_names.specs.FirstCause.{DirectiveCause}
+use Rattle.granit_lexemes.specs.DirectiveCause.{DirectiveCause}
 use Rattle.granit_names.proofs.CommentCauses.{comment_spoiled}
 use Rattle.granit_names.proofs.Runs.{count_over}
 use Rattle.granit_names.proofs.VersionLaw.{no_blank_nul, all_over, all_past}

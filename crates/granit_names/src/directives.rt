@@ -7,7 +7,7 @@ ghost use Rattle.granit_lexemes.specs.Directive.{DirectiveRead, directive};
 ghost use Rattle.granit_lexemes.specs.DirectiveExtent.{AnswersDirective, RefusesDirective};
 ghost use Rattle.granit_lexemes.specs.Here.{Here, next_char};
 ghost use Rattle.granit_lexemes.specs.Outcome.{Fault, fault_at};
-ghost use Rattle.granit_names.specs.FirstCause.{DirectiveCause};
+ghost use Rattle.granit_lexemes.specs.DirectiveCause.{DirectiveCause};
 
 /// Where its `%` stands, an answer is the directive that stands there, with the comment behind it on its
 /// line, and where reading then stands, in front of its line's end.

@@ -5,7 +5,7 @@ use Rattle.std.specs.Prelude.{IfOk}
 use Rattle.granit_base.specs.Place.{Unread}
 use Rattle.granit_base.specs.declared.place.Span.{Span}
 use Rattle.granit_error.specs.OptionsData.{OptionsData}
-use Rattle.granit_error.specs.Refused.{Refused}
+use Rattle.granit_error.specs.Refused.{Refused, UnlessMemory}
 use Rattle.granit_event.specs.declared.event.Event.{Event}
 use Rattle.granit_event.specs.Events.{plain_event}
 use Rattle.granit_lexemes.specs.Outcome.{Fault}
@@ -20,7 +20,6 @@ use Rattle.granit_parser.specs.Recovering.{AnswersIn, AsksAt, AsksBefore, AsksBy
 use Rattle.granit_parser.specs.Recovering.{GoesWithCalls, MeetsNumber, SeenBy, SeenTells, asking_document, comes_ahead}
 use Rattle.granit_seen.specs.Seeing.{seen_kind}
 use Rattle.granit_parser.specs.Recovering.{comes_bare, comes_seen, seen_comment, seen_in, seen_other}
-use Rattle.granit_reader.specs.Meets.{UnlessMemory}
 use Rattle.granit_recovery.specs.Asking.{LookTells}
 use Rattle.granit_restart.proofs.AheadLaws.{look_is_ahead}
 use Rattle.granit_restart.proofs.EndLaws.{look_none}

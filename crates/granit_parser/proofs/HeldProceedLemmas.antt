@@ -6,7 +6,7 @@ use Rattle.granit_base.specs.Place.{Mark, Unread}
 use Rattle.granit_cursor.specs.Reading.{GoesOnward}
 use Rattle.granit_error.specs.FaultKind.{NoMemory}
 use Rattle.granit_error.specs.OptionsData.{OptionsData}
-use Rattle.granit_error.specs.Refused.{Refused}
+use Rattle.granit_error.specs.Refused.{Refused, UnlessMemory}
 use Rattle.granit_event.specs.Events.{plain_event}
 use Rattle.granit_input.specs.Origin.{Origin}
 use Rattle.granit_lexemes.specs.Outcome.{Fault}
@@ -26,7 +26,6 @@ use Rattle.granit_seen.specs.Seeing.{seen_tells_document}
 use Rattle.granit_parser.specs.Recovering.{stays_by}
 use Rattle.granit_parser.specs.Sources.{TellsSource}
 use Rattle.granit_seen.specs.declared.seen.Seen.TheVariants as seens
-use Rattle.granit_reader.specs.Meets.{UnlessMemory}
 use Rattle.granit_recovery.specs.Streams.{ReachedByCalls}
 use Rattle.granit_restart.specs.Calls.{Calls}
 use Rattle.granit_restart.specs.Looking.{told_by, told_event}

@@ -12,7 +12,6 @@ pub mod HeldLemmas
 pub mod HeldProceedLemmas
 pub mod HeldRecoverLemmas
 pub mod InLemmas
-mod KeepLemmas
 pub mod LedLemmas
 pub mod MetLemmas
 pub mod NextLemmas

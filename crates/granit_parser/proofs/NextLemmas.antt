@@ -7,7 +7,7 @@ use Rattle.granit_base.specs.declared.place.Span.{Span}
 use Rattle.granit_cursor.specs.Reading.{GoesOnward}
 use Rattle.granit_error.specs.FaultKind.{NoMemory}
 use Rattle.granit_error.specs.OptionsData.{OptionsData}
-use Rattle.granit_error.specs.Refused.{Refused}
+use Rattle.granit_error.specs.Refused.{Refused, UnlessMemory}
 use Rattle.granit_event.specs.declared.event.Event.{Event}
 use Rattle.granit_input.specs.Origin.{Origin}
 use Rattle.granit_parser.proofs.CallLemmas.{call_going}
@@ -18,7 +18,6 @@ use Rattle.granit_parser.specs.Recovering.{comes_ahead, comes_here, FailsAt, fai
 use Rattle.granit_parser.specs.Recovering.{IsNoted, IsOpen, MeetsNumber, ParserIn, Proceeds, ProceedsNext}
 use Rattle.granit_parser.specs.Recovering.{ProceedsShown, ReadsNext, SeenBy, ShowsFirst, StarvedLook}
 use Rattle.granit_parser.specs.Sources.{NeverRevives, TellsSource}
-use Rattle.granit_reader.specs.Meets.{UnlessMemory}
 use Rattle.granit_recovery.specs.Streams.{ReachedByCalls, reached_call}
 use Rattle.granit_restart.specs.Ahead.{AheadOf}
 use Rattle.granit_restart.specs.Calls.{Calls, failing, given_by}

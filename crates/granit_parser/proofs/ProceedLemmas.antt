@@ -5,7 +5,7 @@ use Rattle.std.specs.Prelude.{IfErr, IfOk, IfSome}
 use Rattle.granit_base.specs.Place.{Unread}
 use Rattle.granit_error.specs.FaultKind.{NoMemory}
 use Rattle.granit_error.specs.OptionsData.{OptionsData}
-use Rattle.granit_error.specs.Refused.{Refused}
+use Rattle.granit_error.specs.Refused.{Refused, UnlessMemory}
 use Rattle.granit_input.specs.Origin.{Origin}
 use Rattle.granit_lexemes.specs.Outcome.{Fault}
 use Rattle.granit_parser.proofs.DropLemmas.{seen_going}
@@ -19,7 +19,6 @@ use Rattle.granit_parser.specs.Recovering.{seen_in}
 use Rattle.granit_parser.specs.Sources.{TellsSource}
 use Rattle.granit_seen.specs.declared.seen.Seen.{Seen}
 use Rattle.granit_seen.specs.declared.seen.Seen.TheVariants as seens
-use Rattle.granit_reader.specs.Meets.{UnlessMemory}
 use Rattle.granit_receivers.specs.Kept.{GivesAgain, IsKept}
 use Rattle.granit_restart.specs.Calls.{Calls}
 use Rattle.granit_restart.specs.Recovery.{recover, recover_with, recovery_answer, resumed}

@@ -1,8 +1,7 @@
 -- The number that a parser's next anchor gets.
-use Rattle.std.specs.Prelude.{ℕ, ◌-◌, ◌^◌, min, suc, true}
-use Rattle.std.specs.Option.{option_map}
+use Rattle.std.specs.Prelude.{ℕ, ◌-◌, ◌^◌, min, suc}
 use Rattle.granit_parser.specs.Parsing.{Parsing}
-use Rattle.granit_refusals.specs.BeforeTurn.{recounted}
+use Rattle.granit_stepper.specs.Offset.{renumbered_by}
 
 -- one more than the number of the last anchor, held at the greatest number of 64 bits
 abbrev pub next_number : {I : Type 0} → Parsing I → ℕ
@@ -11,9 +10,5 @@ next_number p = min (suc p.stepper.parser.count) (2 ^ 64 - 1)
 -- a next anchor gets this number; 0 is as 1
 abbrev pub with_number : {I : Type 0} → ℕ → Parsing I → Parsing I
 with_number offset p = record p {
-  stepper = record (p.stepper) {
-    parser = record (p.stepper.parser) { count = offset - 1 };
-    renumbered = true;
-    refusal = option_map (recounted offset) p.stepper.refusal;
-  };
+  stepper = renumbered_by offset p.stepper;
 }

@@ -1,6 +1,7 @@
 -- What contracts see of a parser, and what its calls give.
 use Rattle.std.specs.Prelude.{◌≡◌, ◌⊎◌, ℕ, Bool, true, false, List, [], ◌∷◌, ◌++◌, Option, Some, None, Result, Ok, Err}
-use Rattle.std.specs.Prelude.{IfErr, IfSome}
+use Rattle.std.specs.Prelude.{◌<◌, IfErr, IfSome}
+use Rattle.granit_base.specs.Counts.{last_count}
 use Rattle.granit_base.specs.Place.{Unread}
 use Rattle.granit_before.specs.DeclaredCause.{DeclaredCause}
 use Rattle.granit_before.specs.DeclaredReading.{DeclaredReading}
@@ -153,6 +154,10 @@ pub data LeadsTo (o : OptionsData) : StepState → List PlainEvent → StepState
   none_given : {m : StepState} → LeadsTo o m [] m
   first_given : {m next last : StepState} {e : PlainEvent} {es : List PlainEvent}
       → next_event o m ≡ Ok (Some e, next) → LeadsTo o next es last → LeadsTo o m (e ∷ es) last
+
+-- behind these events fewer anchors are counted than the greatest number of 64 bits
+abbrev pub LeavesNumbers : OptionsData → StepState → List PlainEvent → Type 0
+LeavesNumbers o m es = (n : StepState) × LeadsTo o m es n × (n.parser.count < last_count)
 
 -- Behind these events of a text, in that state: where there is nothing more, they are the events of its reading, a
 -- whole stream; an event goes on with what begins a stream; and a refusal, behind such events, is for want of memory,

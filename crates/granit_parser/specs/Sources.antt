@@ -4,9 +4,8 @@ use Rattle.std.specs.Prelude.{◌⊎◌, is_some}
 use Rattle.granit_base.specs.Place.{Place}
 use Rattle.granit_cursor.specs.Reading.{Reading}
 use Rattle.granit_error.specs.FaultKind.{FaultKind, NoMemory}
-use Rattle.granit_error.specs.Refused.{Refused}
+use Rattle.granit_error.specs.Refused.{Refused, UnlessMemory}
 use Rattle.granit_input.specs.Origin.{Origin, Goes}
-use Rattle.granit_reader.specs.Meets.{UnlessMemory}
 use Rattle.granit_stepper.specs.Stepping.{Stepping}
 
 -- the first error that a source gave, at that place, outside any named source; its byte offset is told exactly where

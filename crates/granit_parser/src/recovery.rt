@@ -15,7 +15,7 @@ ghost use Rattle.granit_parser.specs.Recovering.{ProceedsHeld, ProceedsHeldNext,
 ghost use Rattle.granit_parser.specs.Recovering.{SkipsToAsk, SkipsWaiting, between_behind, over_behind, seen_in};
 ghost use Rattle.granit_parser.specs.Recovering.{stays_by};
 ghost use Rattle.granit_parser.specs.Sources.{IsSourceError, UnlessSource};
-ghost use Rattle.granit_reader.specs.Meets.{UnlessMemory};
+ghost use Rattle.granit_error.specs.Refused.{UnlessMemory};
 ghost use Rattle.granit_receivers.specs.Kept.{GivesAgain, IsKept};
 ghost use Rattle.granit_seen.specs.Seeing.{seen_starts_document};
 ghost use Rattle.granit_seen.specs.declared.seen.Seen.TheVariants as seens;

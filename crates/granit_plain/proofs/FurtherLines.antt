@@ -19,8 +19,8 @@ use Rattle.granit_lexemes.specs.PlainExtent.{is_flow_dash}
 use Rattle.granit_lexemes.specs.PlainScalar.{PlainState, PlainRead, between, on_content, on_blank, on_break, plain_turn}
 use Rattle.granit_lexemes.specs.PlainScalar.{plain_len, plain_start, is_one_line, behind_plain, plain_scalar}
 use Rattle.granit_lexemes.proofs.HereLemmas.{step_lends, step_text}
-use Rattle.granit_scalars.proofs.PlainTurns.{Turned, past_a_blank, past_a_break, at_a_comment, at_a_tab, at_a_line}
-use Rattle.granit_scalars.proofs.PlainTurns.{past_content, at_no_content, turned}
+use Rattle.granit_lexemes.proofs.PlainTurned.{Turned, past_a_blank, past_a_break, at_a_comment, at_a_tab, at_a_line}
+use Rattle.granit_lexemes.proofs.PlainTurned.{past_content, at_no_content, turned}
 use Rattle.granit_scalars.proofs.Stepping.{seen, second_of, is_break_nul}
 use Rattle.granit_plain.specs.LineCode.{LinePassed, line_state, broken_state, text_of_lines, further_scalar}
 use Rattle.granit_plain.specs.LineCode.{line_scalar}

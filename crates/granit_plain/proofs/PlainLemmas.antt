@@ -17,7 +17,8 @@ use Rattle.granit_lexemes.specs.PlainScalar.{plain_turn, plain_len}
 use Rattle.granit_base.specs.PlainContent.{is_content}
 use Rattle.granit_lexemes.proofs.PieceLemmas.{with_front-nil, pieces_more, pieces_done}
 use Rattle.granit_lexemes.proofs.PieceLemmas.{pieces_fails}
-use Rattle.granit_scalars.proofs.PlainTurns.{chain, plain_shortens}
+use Rattle.granit_scalars.proofs.PlainTurns.{plain_shortens}
+use Rattle.granit_lexemes.proofs.PlainTurned.{chain}
 use Rattle.granit_plain.specs.PlainCode.{plain_state, plain_rest, plain_whole, ahead_of, plain_turn_by, nothing_taken}
 use Rattle.granit_plain.specs.PlainTaken.{PlainTaken}
 use Rattle.granit_plain.specs.declared.plain.Ahead.{Ahead}

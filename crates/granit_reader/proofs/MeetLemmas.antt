@@ -4,7 +4,7 @@ use Rattle.std.proofs.Common.{sym, ap, ◌∙◌}
 use Rattle.std.specs.Prelude.{if◌then◌else◌, slice_index}
 use Rattle.granit_base.specs.Classes.{is_printable}
 use Rattle.granit_error.specs.OptionsData.{OptionsData}
-use Rattle.granit_error.specs.Refused.{Refused}
+use Rattle.granit_error.specs.Refused.{Refused, UnlessMemory}
 use Rattle.granit_lexemes.specs.Basics.{is_document_mark}
 use Rattle.granit_lexemes.specs.Comment.{CommentRead}
 use Rattle.granit_lexemes.specs.Here.{Here, mark_of, next_char, text_len}
@@ -15,7 +15,7 @@ use Rattle.granit_machine.specs.LexemeSort.{sort_at, sort_of}
 use Rattle.granit_machine.specs.PossibleKeys.{without_stale}
 use Rattle.granit_machine.specs.ReaderState.{ReaderState}
 use Rattle.granit_content.specs.Reads.{Kept, Nothing, Passed, seen}
-use Rattle.granit_reader.specs.Meets.{MeetsBehind, UnlessMemory, behind_met}
+use Rattle.granit_reader.specs.Meets.{MeetsBehind, behind_met}
 use Rattle.granit_reader.specs.Reads.{reader_at}
 use Rattle.granit_reader.specs.declared.met.Met.{Met}
 use Rattle.granit_reader.specs.declared.met.Met.TheVariants as mets

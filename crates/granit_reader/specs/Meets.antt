@@ -1,8 +1,6 @@
 -- What a read came to behind its gap, as recovery asks.
-use Rattle.std.specs.Prelude.{◌≡◌, Bool, true, false, Result, Ok, Err}
-use Rattle.granit_error.specs.FaultKind.{NoMemory}
+use Rattle.std.specs.Prelude.{◌≡◌, Bool, true, false}
 use Rattle.granit_error.specs.OptionsData.{OptionsData}
-use Rattle.granit_error.specs.Refused.{Refused}
 use Rattle.granit_machine.specs.Gaps.{GapRead}
 use Rattle.granit_restart.specs.Header.{gap_in_directive}
 use Rattle.granit_reader.specs.declared.met.Met.{Met}
@@ -17,8 +15,3 @@ behind_met mets.Another before = false
 -- what was met behind this gap is what the definition finds there
 abbrev pub MeetsBehind : OptionsData → Met → GapRead → Type 0
 MeetsBehind o met given = (before : Bool) → behind_met met before ≡ gap_in_directive o before given
-
--- unless memory ran out
-abbrev pub UnlessMemory : {X : Type 0} → Result X Refused → Type 0 → Type 0
-UnlessMemory (Ok x) Holds = Holds
-UnlessMemory (Err e) Holds = (e.kind ≡ NoMemory → ⊥) → Holds

@@ -11,11 +11,9 @@ ghost use Rattle.granit_restart.specs.Header as header;
 
 use granit_base::{Marker, NoMemory};
 use granit_error::{ErrorKind, ScanError};
-use granit_feed::clone_tail;
 use granit_frames::{DocumentStage, ParserState};
-use granit_items::{Item, Lexeme, LexemeKind};
+use granit_items::{Item, Lexeme, LexemeKind, clone_tail, is_directive};
 use granit_refused::Refused;
-use granit_scanner::is_directive;
 use std::alloc::Global;
 
 /// Where a turn was refused, and what stood before it.

@@ -27,8 +27,9 @@ use Rattle.granit_scalars.proofs.PlainSpelling.{separation_gap}
 use Rattle.granit_scalars.proofs.Printing.{unprintable_behind, break_text_gap}
 use Rattle.granit_scalars.proofs.PlainKept.{KeptOnLine, KeptFolded, Kept, Stays, separation_kept, content_stays}
 use Rattle.granit_scalars.proofs.PlainKept.{blank_stays, break_stays, Goes}
-use Rattle.granit_scalars.proofs.PlainTurns.{tab_found, line_found, Turned, past_a_blank, past_a_break, at_a_comment}
-use Rattle.granit_scalars.proofs.PlainTurns.{at_a_tab, at_a_line, past_content, at_no_content, turned, seen_content}
+use Rattle.granit_lexemes.proofs.PlainTurned.{tab_found, line_found, Turned, past_a_blank, past_a_break, at_a_comment}
+use Rattle.granit_scalars.proofs.PlainTurns.{seen_content}
+use Rattle.granit_lexemes.proofs.PlainTurned.{at_a_tab, at_a_line, past_content, at_no_content, turned}
 use Rattle.granit_scalars.proofs.PlainTurns.{plain_shortens}
 use Rattle.granit_scalars.proofs.Stepping.{over-append}
 use Rattle.granit_scalars.proofs.Turning.{Carries, pieces_hold}

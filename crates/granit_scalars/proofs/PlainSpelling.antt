@@ -8,6 +8,7 @@ use Rattle.granit_base.specs.Place.{first}
 use Rattle.granit_lexemes.specs.Gap.{Each}
 use Rattle.granit_lexemes.specs.LayoutData.{LayoutData}
 use Rattle.granit_base.specs.PlainContent.{is_content}
+use Rattle.granit_lexemes.proofs.PlainTurned.{no_gap_of}
 use Rattle.granit_lexemes.specs.PlainExtent.{Separation, OnLine, Folded, separation_text, UpToBreak, at_break}
 use Rattle.granit_lexemes.specs.PlainExtent.{before_break, IsSeparation, MayFollow, GoesOn, ends, goes_on, SpellsPlain}
 use Rattle.granit_lexemes.specs.PlainExtent.{PlainExtent, EndsPlain, nothing_more, colon, flow_indicator, comment}
@@ -62,10 +63,6 @@ pub no_content_is : (in_flow : Bool) (text : List ℕ) → is_content in_flow te
 unfolding is_blank_or_breakz is_breakz
 no_content_is in_flow text e p q = no_content_parts (is_blank (first text)) (is_break (first text)) (is_z (first text))
     (colon_found in_flow text) (indicator_found in_flow text) e p q
-
-pub no_gap_of : (c : ℕ) → is_blank c ≡ false → is_break c ≡ false → is_gap c ≡ false
-unfolding is_gap
-no_gap_of c n m = or_from (is_blank c) (is_break c) n m
 
 pub solid : (flow : Bool) (text : List ℕ) → is_content flow text ≡ true → Solid (first text)
 unfolding is_blank_or_breakz is_breakz

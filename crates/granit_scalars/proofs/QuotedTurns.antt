@@ -16,7 +16,7 @@ use Rattle.granit_lexemes.specs.QuotedScalar.{QuotedState, quote_char, is_closin
 use Rattle.granit_lexemes.specs.QuotedScalar.{is_loosely_left, between_quoted, quoted_at, over_blank, over_break}
 use Rattle.granit_lexemes.specs.QuotedScalar.{quoted_piece, quoted_content, quoted_turn, quoted_len, escape_or}
 use Rattle.granit_lexemes.proofs.HereLemmas.{step_len}
-use Rattle.granit_scalars.proofs.PlainSpelling.{no_gap_of}
+use Rattle.granit_lexemes.proofs.PlainTurned.{no_gap_of}
 use Rattle.granit_scalars.proofs.PlainTurns.{seen_blank}
 use Rattle.granit_scalars.proofs.QuotedEscapes.{ReadsEscape, reads_escape}
 use Rattle.granit_scalars.proofs.Stepping.{Seen, seen_as, shorter, broken}

@@ -8,14 +8,15 @@ use Rattle.granit_base.specs.Place.{Unread}
 use Rattle.granit_cursor.specs.Reading.{GoesOnward, Reading, Stands}
 use Rattle.granit_error.specs.Refused.{Refused}
 use Rattle.granit_lexemes.specs.Here.{Here}
+use Rattle.granit_machine.specs.Gaps.{gap}
 use Rattle.granit_machine.specs.Laid.{Laid}
 use Rattle.granit_machine.specs.Lexing.{FlaggedItem}
 use Rattle.granit_machine.specs.Machine.{front_if, is_settled, settled}
 use Rattle.granit_machine.specs.Reader.{LexState}
 use Rattle.granit_scanner.specs.Scans.{Scanning, Known, KnownBy, TakesAsked, TakesOldest, front_goes, is_done}
 use Rattle.granit_reader.specs.Meets.{behind_met}
-use Rattle.granit_restart.specs.Header.{ends_in_directive, last_is_directive}
-use Rattle.granit_scanner.specs.Scans.{line_asked, line_next, may_front_go, unsettled}
+use Rattle.granit_restart.specs.Header.{ends_in_directive, gap_in_directive, last_is_directive}
+use Rattle.granit_scanner.specs.Scans.{fails_in_header, line_asked, line_next, may_front_go, unsettled}
 use Rattle.granit_steps.specs.Steps.{asks_next, is_next_settled, is_over, line_behind, may_go}
 
 or_true : (b : Bool) → (b || true) ≡ true
@@ -193,6 +194,13 @@ module _ {I : Type 0} (unread : I → Unread → Type 0) (s : Scanning I) (l : L
       ∙ ap (λ (w : List FlaggedItem). ends_in_directive (ends_in_directive before w) (unsettled l.reader.laid q))
       (sym k.2)
       ∙ sym (ends_both before l.reader.laid q)
+
+  -- the read that failed, and what waits before it
+  pub known_header : (q : List FlaggedItem) (before : Bool) (f : Refused) → KnownBy unread (Some f) s l q
+      → fails_in_header before s
+      ≡ gap_in_directive s.options (ends_in_directive before q) (gap s.options l.reader.here l.reader.laid)
+  known_header q before f k =
+      ap (behind_met s.met) (last_by q before (Some f) k) ∙ k.3.met (ends_in_directive before q)
 
   pub known_last : (q : List FlaggedItem) (before : Bool) → Known unread s l q
       → (if is_some s.fault then behind_met s.held (ends_in_directive before s.queue)

@@ -54,6 +54,10 @@ pub record BehindFault {I : Type 0} (unread : I → Unread → Type 0) (s : Scan
   pub held : (before : Bool) → behind_met s.held before ≡ ends_in_directive before (unsettled l.reader.laid q)
   pub met : MeetsBehind s.options s.met (gap s.options l.reader.here l.reader.laid)
 
+-- whether the read that failed stands among directives, by whether what was taken before it ends in one
+abbrev pub fails_in_header : {I : Type 0} → Bool → Scanning I → Bool
+fails_in_header before s = behind_met s.met (behind_met s.held (ends_in_directive before s.queue))
+
 -- before a fault only those items are kept that may go
 abbrev pub KnownBy : {I : Type 0} → (I → Unread → Type 0) → Option Refused → Scanning I → LexState → List FlaggedItem
     → Type 0

@@ -5,7 +5,7 @@ ghost use Rattle.granit_reader.specs.Meets.{behind_met};
 ghost use Rattle.granit_restart.specs.Header as header;
 ghost use Rattle.granit_scanner.specs.Scans.{TellsLast};
 
-use granit_items::{Item, LexemeKind};
+use granit_items::{Item, LexemeKind, is_directive};
 use granit_queue::Queue;
 use granit_reader::Met;
 
@@ -52,16 +52,6 @@ fn met_as(kind: &LexemeKind<'_>) -> Met
     } else {
         Met::Another
     }
-}
-
-/// Whether a lexeme is a directive.
-pub fn is_directive(kind: &LexemeKind<'_>) -> bool
-    ensures { result ≡ header.is_directive (kind_view kind.now) }
-{
-    matches!(
-        kind,
-        LexemeKind::Version(_, _) | LexemeKind::TagPrefix(_, _) | LexemeKind::Reserved(_, _)
-    )
 }
 
 /// Whether directives are being read behind what was met, by whether they are before it.

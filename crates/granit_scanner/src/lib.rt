@@ -5,5 +5,4 @@ mod last;
 mod restart;
 mod scanner;
 
-pub use last::is_directive;
 pub use scanner::{Front, Scanner};

@@ -4,12 +4,12 @@ ghost use Rattle.std.specs.Option.{option_map};
 ghost use Rattle.granit_cursor.specs.Reading.{GoesTo, Moves, Stands};
 ghost use Rattle.granit_items.specs.ItemViews.{boxed_lexeme, item_view, kind_view, lexeme_view};
 ghost use Rattle.granit_lexemes.specs.Here.{Here};
-ghost use Rattle.granit_reader.specs.Meets.{behind_met};
 ghost use Rattle.granit_restart.specs.Boundary.{next_boundary};
 ghost use Rattle.granit_restart.specs.Header as header;
 ghost use Rattle.granit_restart.specs.Restart as spec;
 ghost use Rattle.granit_machine.specs.Reader.{LexState};
 ghost use Rattle.granit_scanner.specs.Restarts.{Restarts, front_items};
+ghost use Rattle.granit_scanner.specs.Scans as scans;
 ghost use Rattle.granit_scanner.specs.Scans.{Known};
 ghost use Rattle.granit_steps.specs.Steps.{StepState};
 
@@ -54,8 +54,7 @@ impl<'input, T: BorrowedInput<'input>> Scanner<'input, T> {
 
     /// Whether the read that failed stands among directives, where what was taken ends in one or not.
     pub fn fails_in_header(&self, before: bool) -> bool
-        ensures { result ≡ behind_met self.now.met
-            (behind_met self.now.held (header.ends_in_directive before self.now.queue)) }
+        ensures { result ≡ scans.fails_in_header before self.now }
     {
         is_behind(
             self.met,

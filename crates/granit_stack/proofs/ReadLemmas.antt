@@ -16,7 +16,8 @@ use Rattle.granit_input.specs.Origin.{Origin}
 use Rattle.granit_layers.specs.Stacking.{is_none_left, top_offset}
 use Rattle.granit_layers.specs.declared.layer.Layer.{Layer}
 use Rattle.granit_load.proofs.GatherLemmas.{never_failed}
-use Rattle.granit_load.specs.Answering.{GivesAllOr, LacksNumber, LeavesNumbers}
+use Rattle.granit_load.specs.Answering.{GivesAllOr, LacksNumber}
+use Rattle.granit_parser.specs.Parsing.{LeavesNumbers}
 use Rattle.granit_parser.specs.Streams.{bare_text_start}
 use Rattle.granit_replay.specs.Replaying.{Replay, raised_by_all}
 use Rattle.granit_replay.specs.declared.resolver.Included.{Included}

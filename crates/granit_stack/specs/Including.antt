@@ -11,7 +11,8 @@ use Rattle.granit_event.specs.Events.{plain_events}
 use Rattle.granit_layers.specs.Stacking.{IsWithin, Pushes}
 use Rattle.granit_layers.specs.declared.layer.Layer.{Layer}
 use Rattle.granit_lexemes.specs.PlainEvent.{PlainEvent}
-use Rattle.granit_load.specs.Answering.{GivesAll, LacksNumber, LeavesNumbers}
+use Rattle.granit_load.specs.Answering.{GivesAll, LacksNumber}
+use Rattle.granit_parser.specs.Parsing.{LeavesNumbers}
 use Rattle.granit_parser.specs.Streams.{bare_text_start}
 use Rattle.granit_replay.specs.Replaying.{Replay, raised_by_all}
 use Rattle.granit_replay.specs.Resolving.{missing_resolver}

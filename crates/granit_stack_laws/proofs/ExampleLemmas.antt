@@ -22,8 +22,7 @@ use Rattle.granit_layers.specs.declared.layer.Layer.{Layer}
 use Rattle.granit_layers.specs.declared.turn.Turn.TheVariants.{Gives, Withholds, Leaves}
 use Rattle.granit_lexemes.specs.Outcome.{Fault}
 use Rattle.granit_lexemes.specs.PlainEvent.{PlainEvent, plain_span}
-use Rattle.granit_load.specs.Answering.{LeavesNumbers}
-use Rattle.granit_parser.specs.Parsing.{LeadsTo, first_given, none_given}
+use Rattle.granit_parser.specs.Parsing.{LeavesNumbers, LeadsTo, first_given, none_given}
 use Rattle.granit_replay.specs.Replaying.{Replay, behind_next, next_of, raised_by}
 use Rattle.granit_replay.specs.declared.resolver.Included.{Included}
 use Rattle.granit_replay.specs.declared.resolver.Included.TheVariants.{Borrowed}

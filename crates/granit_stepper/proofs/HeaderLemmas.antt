@@ -11,13 +11,12 @@ use Rattle.granit_machine.specs.Frames.{DocumentStage}
 use Rattle.granit_machine.specs.Gaps.{GapRead, gap}
 use Rattle.granit_machine.specs.Lexing.{FlaggedItem}
 use Rattle.granit_machine.specs.Reader.{LexState}
-use Rattle.granit_reader.specs.Meets.{behind_met}
 use Rattle.granit_restart.specs.Header as header
 use Rattle.granit_restart.specs.Header.{ends_in_directive, front_is_directive, gap_in_directive, is_directives}
 use Rattle.granit_restart.specs.Header.{is_fresh, is_start_expected, last_is_directive, parser_takes, takes_front}
 use Rattle.granit_restart.specs.Skipping as skipping
-use Rattle.granit_scanner.specs.Scans.{Known, may_front_go, unsettled}
-use Rattle.granit_scanner.proofs.KnownLemmas.{ends_both}
+use Rattle.granit_scanner.specs.Scans.{Known, fails_in_header, may_front_go}
+use Rattle.granit_scanner.proofs.KnownLemmas.{known_header}
 use Rattle.granit_refusals.specs.BeforeTurn as spec
 use Rattle.granit_refusals.specs.BeforeTurn.{directive_in, is_true, or_before}
 use Rattle.granit_stepper.specs.Refusals.{FailedToRead, StandsRefused, TookFront}
@@ -73,22 +72,12 @@ module _ {I : Type 0} (unread : I → Unread → Type 0) (s : Stepping I) (m : S
 
   -- the read that failed, and what waits before it
   pub failed_reads : (f : FailedToRead unread s m r e) → stage_view r.stage ≡ m.parser.stage
-      → behind_met s.scanner.met (behind_met s.scanner.held (ends_in_directive (is_directives (stage_view r.stage))
-      s.scanner.queue)) ≡ header.reads_directives s.scanner.options m
+      → fails_in_header (is_directives (stage_view r.stage)) s.scanner ≡ header.reads_directives s.scanner.options m
   failed_reads f stage =
       let before = is_directives m.parser.stage in
-      let laid = m.reading.reader.laid in
-      let given : GapRead = gap s.scanner.options m.reading.reader.here laid in
-      let k = f.known in
-      let waits : behind_met s.scanner.held (ends_in_directive before s.scanner.queue)
-      ≡ ends_in_directive before m.queue =
-      k.3.held (ends_in_directive before s.scanner.queue)
-      ∙ ap (λ (w : List FlaggedItem). ends_in_directive (ends_in_directive before w) (unsettled laid m.queue)) (sym k.2)
-      ∙ sym (ends_both before laid m.queue) in
-      ap (λ (d : DocumentStage). behind_met s.scanner.met (behind_met s.scanner.held
-      (ends_in_directive (is_directives d) s.scanner.queue))) stage
-      ∙ ap (behind_met s.scanner.met) waits
-      ∙ k.3.met (ends_in_directive before m.queue)
+      let given : GapRead = gap s.scanner.options m.reading.reader.here m.reading.reader.laid in
+      ap (λ (d : DocumentStage). fails_in_header (is_directives d) s.scanner) stage
+      ∙ known_header unread s.scanner m.reading m.queue before e f.known
       ∙ sym (ap (λ (b : Bool). if b then ends_in_directive before m.queue
       else gap_in_directive s.scanner.options (ends_in_directive before m.queue) given) (failed_takes f))
 
@@ -121,8 +110,7 @@ module _ {I : Type 0} (unread : I → Unread → Type 0) (s : Stepping I) (m : S
   ]
 
   pub failed_directives : r.takes_front ≡ false → (found : Bool)
-      → found ≡ behind_met s.scanner.met (behind_met s.scanner.held
-      (ends_in_directive (is_directives (stage_view r.stage)) s.scanner.queue))
+      → found ≡ fails_in_header (is_directives (stage_view r.stage)) s.scanner
       → found ≡ header.reads_directives s.scanner.options m
   failed_directives takes found known = elim how [
     | inl t ↦ absurd (let clash : true ≡ false = sym t.takes ∙ takes in cc)

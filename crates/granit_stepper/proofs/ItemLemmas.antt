@@ -21,7 +21,7 @@ use Rattle.granit_refusals.specs.BeforeTurn.{IsBeforeItem}
 use Rattle.granit_stepper.specs.Refusals.{RefusedItem}
 use Rattle.granit_stepper.specs.Stepping.{StandsIn, Stepping, feed_item, turn_view}
 use Rattle.granit_refusals.specs.declared.refusal.Refusal.{Refusal}
-use Rattle.granit_refusals.proofs.FrontLemmas.{before_alike}
+use Rattle.granit_stepper.proofs.FrontLemmas.{before_alike}
 use Rattle.granit_stepper.proofs.StateLemmas.{feed_fails, feeds, feeds_last}
 use Rattle.granit_steps.specs.Steps.{StepState}
 

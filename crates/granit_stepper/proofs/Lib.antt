@@ -5,10 +5,12 @@ pub mod CalmLemmas
 pub mod EarlyLemmas
 pub mod EndLemmas
 pub mod FaultLemmas
+pub mod FrontLemmas
 pub mod GatherLemmas
 pub mod HeaderLemmas
 pub mod HoldingLemmas
 pub mod ItemLemmas
+pub mod KeepLemmas
 pub mod LookLemmas
 pub mod NumberLemmas
 pub mod PassLemmas

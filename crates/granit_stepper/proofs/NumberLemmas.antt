@@ -2,6 +2,7 @@
 use Rattle.std.proofs.Common.{◌≡◌, ◌⊎◌, inl, inr, ℕ, ◌<◌, ◌≤◌, ◌==◌, ◌-◌, ◌^◌, Bool, true, false, List, [], ◌∷◌}
 use Rattle.std.proofs.Common.{Option, Some, None, Result, Ok, Err, refl, sym, ap, ◌∙◌, arith}
 use Rattle.std.proofs.lemmas.Bool.Decides.{nat_tests}
+use Rattle.std.specs.Option.{option_map}
 use Rattle.std.specs.Prelude.{nat_le, if◌then◌else◌}
 use Rattle.granit_base.specs.Place.{Mark}
 use Rattle.granit_base.specs.Written.{Written}
@@ -15,6 +16,8 @@ use Rattle.granit_lexemes.specs.PlainEvent.{PlainEvent}
 use Rattle.granit_machine.specs.Frames.{ParserState}
 use Rattle.granit_machine.specs.Lexing.{FlaggedItem}
 use Rattle.granit_machine.specs.Parser.{feed}
+use Rattle.granit_refusals.specs.BeforeTurn.{recounted}
+use Rattle.granit_refusals.specs.declared.refusal.Refusal.{Refusal}
 use Rattle.granit_scanner.specs.Scans.{line_asked}
 use Rattle.granit_stepper.specs.Numbers.{GetsLast, GivesOr, IsNumberless, NoNumberLeft, RefusesNumber, TurnsTo}
 use Rattle.granit_stepper.specs.Numbers.{anchor_start, is_anchor, no_turn, one_turn, start_if}
@@ -162,3 +165,9 @@ module _ (o : OptionsData) (m : StepState) (x : FlaggedItem × Option ℕ) (is :
   turn_or view (Ok y) Lands renumbered given g = g
   turn_or view (Err e) Lands renumbered given (inl fails) = inl fails
   turn_or view (Err e) Lands renumbered given (inr left) = inr (left.0, last_turn e left.1)
+
+-- ---- a refusal behind which a number was set
+
+pub none_recounted : (offset : ℕ) (refusal : Option Refusal) → refusal ≡ None
+    → option_map (recounted offset) refusal ≡ None
+none_recounted offset refusal is = ap (option_map (recounted offset)) is

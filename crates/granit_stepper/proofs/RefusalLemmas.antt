@@ -32,7 +32,7 @@ use Rattle.granit_scanner.proofs.KnownLemmas.{goes_kept}
 use Rattle.granit_stepper.specs.Recovering.{RestartsIn}
 use Rattle.granit_stepper.specs.Numbers.{GetsLast}
 use Rattle.granit_stepper.specs.Offset.{with_offset}
-use Rattle.granit_refusals.proofs.FrontLemmas.{front_reads}
+use Rattle.granit_stepper.proofs.FrontLemmas.{front_reads}
 use Rattle.granit_refusals.specs.BeforeTurn.{IsBeforeRead, recounted}
 use Rattle.granit_stepper.specs.Refusals.{FailedToRead, FailsIn, HoldsRefusal, RefusedIn}
 use Rattle.granit_stepper.specs.Refusals.{RefusedItem, RefusesIn, RefusesItem, StandsRefused, TookFront}

@@ -1,10 +1,8 @@
 //! The number that a next anchor gets.
-ghost use Rattle.std.specs.Prelude.{◌≡◌, ◌-◌, ◌^◌, min, suc, true};
-ghost use Rattle.std.specs.Option.{option_map};
+ghost use Rattle.std.specs.Prelude.{◌≡◌, ◌-◌, ◌^◌, min, suc};
 ghost use Rattle.granit_base.specs.Place.{Unread};
 ghost use Rattle.granit_error.specs.Refused.{Refused};
-ghost use Rattle.granit_stepper.specs.Offset.{with_offset};
-ghost use Rattle.granit_refusals.specs.BeforeTurn.{recounted};
+ghost use Rattle.granit_stepper.specs.Offset.{renumbered_by, with_offset};
 ghost use Rattle.granit_stepper.specs.Refusals.{StandsRefused};
 ghost use Rattle.granit_stepper.specs.Stepping.{StandsIn};
 ghost use Rattle.granit_steps.specs.Steps.{StepState};
@@ -27,11 +25,7 @@ impl<'input, T: BorrowedInput<'input>> Stepper<'input, T> {
             → StandsIn T.unread self.new (with_offset offset m) }
         ensures refused { (m : StepState) (e : Refused) → StandsRefused T.unread self.old m e
             → StandsRefused T.unread self.new (with_offset offset m) e }
-        ensures rest { self.new ≡ record self.old {
-          parser = record (self.old.parser) { count = offset - 1 };
-          renumbered = true;
-          refusal = option_map (recounted offset) self.old.refusal;
-        } }
+        ensures rest { self.new ≡ renumbered_by offset self.old }
     {
         self.parser.set_anchor_offset(offset);
         self.renumbered = true;

@@ -3,11 +3,10 @@ ghost use Rattle.std.specs.Prelude.{◌≡◌, [], true, false, None, Some, Err,
 ghost use Rattle.std.specs.Prelude.{OnOk};
 ghost use Rattle.granit_cursor.specs.Reading.{Moves};
 ghost use Rattle.granit_error.specs.FaultKind as faults;
-ghost use Rattle.granit_error.specs.Refused.{Refused};
+ghost use Rattle.granit_error.specs.Refused.{Refused, UnlessMemory};
 ghost use Rattle.granit_event.specs.Events.{event_kind};
 ghost use Rattle.granit_frames.specs.Outside.{NoneWaitsOutside};
 ghost use Rattle.granit_lexemes.specs.Outcome.{fault_at};
-ghost use Rattle.granit_reader.specs.Meets.{UnlessMemory};
 ghost use Rattle.granit_restart.specs.Header as header;
 ghost use Rattle.granit_restart.specs.Looking.{turn_ahead};
 ghost use Rattle.granit_restart.specs.Skipping as skipping;

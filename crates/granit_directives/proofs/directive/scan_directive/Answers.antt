@@ -6,7 +6,7 @@ use Rattle.granit_error.specs.OptionsView.{options_of}
 use Rattle.granit_lexemes.specs.Directive.{directive}
 use Rattle.granit_lexemes.specs.DirectiveExtent.{AnswersDirective}
 use Rattle.granit_names.proofs.LineLaw.{whole_caused, whole_stands, whole_is}
-use Rattle.granit_names.specs.FirstCause.{DirectiveCause}
+use Rattle.granit_lexemes.specs.DirectiveCause.{DirectiveCause}
 
 pub returns-clause-directive : goal.returns-clause-directive
 returns-clause-directive g c = λ h k.

@@ -7,7 +7,7 @@ use Rattle.granit_parser.specs.Holding.{WaitsBehind, held_room}
 use Rattle.granit_parser.specs.Parsing.{Parsing}
 use Rattle.granit_seen.specs.Seeing as seeing
 use Rattle.granit_parser.specs.Recovering.{AsksBy, seen_in}
-use Rattle.granit_reader.specs.Meets.{UnlessMemory}
+use Rattle.granit_error.specs.Refused.{UnlessMemory}
 use Rattle.granit_stepper.specs.Holding.{HoldsFault, held_follows}
 use Rattle.granit_stepper.specs.Recovering.{Looks}
 

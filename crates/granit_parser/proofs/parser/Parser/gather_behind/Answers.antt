@@ -7,7 +7,7 @@ use Rattle.granit_parser.proofs.SourceLemmas.{goes_giving}
 use Rattle.granit_parser.specs.Gathering.{GathersAll, WaitsGathered}
 use Rattle.granit_parser.specs.Parsing.{none_given}
 use Rattle.granit_parser.proofs.parser.Parser.gather_behind.Goals as goal
-use Rattle.granit_scanner.specs.Scans.{Scanning}
+use Rattle.granit_stepper.proofs.KeepLemmas.{same_options}
 
 pub returns-in-Ok-clause-known : goal.returns-in-Ok-clause-known
 returns-in-Ok-clause-known g c = λ m before.
@@ -17,7 +17,7 @@ returns-in-Ok-clause-known g c = λ m before.
     let put = c.in-Ok.ensures in
     subst (λ (p : OptionsData). WaitsGathered unread p m mid
     → GathersAll g.T.Input.origin p m c.gather_rest.result (λ v. plain_events v.items) c.gather_rest.new.self)
-    (ap (λ (s : Scanning _). s.options) put.scanner) (c.gather_rest.ensures.known m)
+    (same_options _ _ put.scanner) (c.gather_rest.ensures.known m)
     (waits_first unread o m c.args.self.now.stepper mid (plain_event c.args.first) put.first put.known before)
 
 pub returns-in-Ok-clause-goes : goal.returns-in-Ok-clause-goes

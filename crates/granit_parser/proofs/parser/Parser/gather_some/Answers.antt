@@ -7,7 +7,7 @@ use Rattle.granit_parser.proofs.SourceLemmas.{goes_giving}
 use Rattle.granit_parser.proofs.parser.Parser.gather_some.Goals as goal
 use Rattle.granit_parser.specs.Gathering.{GathersSome, WaitsGathered}
 use Rattle.granit_parser.specs.Parsing.{Next, StandsBefore, none_given}
-use Rattle.granit_scanner.specs.Scans.{Scanning}
+use Rattle.granit_stepper.proofs.KeepLemmas.{same_options}
 
 pub returns-then-has_failed-clause-known : goal.returns-then-has_failed-clause-known
 returns-then-has_failed-clause-known g c = λ m at.
@@ -23,7 +23,7 @@ returns-in-Ok-clause-known g c = λ m at.
     let stands = subst (λ (r : Next). StandsBefore unread r c.args.self.now.stepper m) c.requires.seen at in
     subst (λ (p : OptionsData). WaitsGathered unread p m mid
     → GathersSome unread g.T.Input.origin p m c.fill_batch.result (plain_events c.fill_batch.new.batch.items)
-    c.fill_batch.new.self) (ap (λ (s : Scanning _). s.options) put.scanner) (c.fill_batch.ensures.known m)
+    c.fill_batch.new.self) (same_options _ _ put.scanner) (c.fill_batch.ensures.known m)
     (waits_now unread o m mid put.first (put.known m stands))
 
 pub returns-in-Err-clause-known : goal.returns-in-Err-clause-known

@@ -1,7 +1,7 @@
 use Rattle.std.proofs.Common.{◌∙◌, refl, sym, ap, subst}
 use Rattle.granit_parser.proofs.ChangeLemmas.{changed_in, changed_there, closed_changed}
 use Rattle.granit_parser.proofs.HeldLemmas.{held_then, holds_changed}
-use Rattle.granit_parser.proofs.KeepLemmas.{refused_alike, stands_alike}
+use Rattle.granit_stepper.proofs.KeepLemmas.{refused_alike, stands_alike}
 use Rattle.granit_parser.specs.Holding.{keeping_tags}
 use Rattle.granit_parser.specs.Parsing.{Next, Parsing, StandsBefore}
 use Rattle.granit_parser.specs.Recovering.{unchanged}

@@ -1,12 +1,11 @@
 use Rattle.std.proofs.Common.{refl, ap, subst, ◌∙◌}
-use Rattle.std.specs.Option.{option_map}
 use Rattle.granit_error.specs.Refused.{Refused}
 use Rattle.granit_parser.proofs.ChangeLemmas.{changed_in, changed_there, closed_changed}
 use Rattle.granit_parser.proofs.HeldLemmas.{held_then, holds_changed}
 use Rattle.granit_parser.specs.Holding.{keeping_tags}
 use Rattle.granit_parser.specs.Parsing.{Parsing}
 use Rattle.granit_stepper.specs.Offset.{with_offset}
-use Rattle.granit_refusals.specs.BeforeTurn.{recounted}
+use Rattle.granit_stepper.proofs.NumberLemmas.{none_recounted}
 use Rattle.granit_stepper.specs.Refusals.{StandsRefused}
 use Rattle.granit_stepper.specs.Stepping.{StandsIn, Stepping}
 use Rattle.granit_steps.specs.Steps.{StepState}
@@ -72,7 +71,7 @@ returns-clause-failed g c = λ calls closed at.
     (ap (λ (s : Stepping _). s.failed) rest ∙ ap (λ (p : Parsing _). p.stepper.failed) view)
     (λ is. ap (λ (s : Stepping _). s.renumbered) rest)
     (λ none. ap (λ (s : Stepping _). s.refusal) rest
-    ∙ ap (option_map (recounted c.args.offset)) (ap (λ (p : Parsing _). p.stepper.refusal) view ∙ none))
+    ∙ none_recounted c.args.offset _ (ap (λ (p : Parsing _). p.stepper.refusal) view ∙ none))
     (ap (λ (p : Parsing _). p.given) view) (ap (λ (p : Parsing _). p.over) view) calls closed at
 
 pub returns-clause-held : goal.returns-clause-held

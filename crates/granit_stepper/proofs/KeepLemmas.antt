@@ -17,6 +17,9 @@ use Rattle.granit_stepper.specs.Refusals.{StandsRefused}
 use Rattle.granit_stepper.specs.Stepping.{StandsIn, Stepping, keeping}
 use Rattle.granit_steps.specs.Steps.{StepState}
 
+pub same_options : {I : Type 0} (s t : Scanning I) → s ≡ t → s.options ≡ t.options
+same_options s t is = ap (λ (x : Scanning _). x.options) is
+
 -- neither a gap nor what is met behind it goes by that
 read_alike : (keep : Bool) (o : OptionsData) (before : Bool) (h : Here) (l : Laid)
     → gap_in_directive o before (gap o h l)
