@@ -1,6 +1,7 @@
 -- What the code's parser keeps, as the machine's parser has it.
-use Rattle.std.specs.Prelude.{ℕ, Bool, true, false, List, ◌∷◌, map, Option, Some, None}
+use Rattle.std.specs.Prelude.{ℕ, Bool, true, false, List, [], ◌∷◌, map, Option, Some, None}
 use Rattle.std.specs.Option.{option_map}
+use Rattle.std.specs.VecDeque.{deque_items}
 use Rattle.granit_base.specs.Written.{Written}
 use Rattle.granit_event.specs.Events.{plain_events, plain_version}
 use Rattle.granit_machine.specs.Frames as spec
@@ -41,5 +42,10 @@ handle_view e = (e.0.characters, e.1.characters)
 abbrev pub handles_view : List (Written × Written) → List (List ℕ × List ℕ)
 handles_view es = map handle_view es
 
+-- comments that are held, where one is
+abbrev pub held_items : {X : Type 0} → Option (List X) → List X
+held_items None = []
+held_items (Some held) = held
+
 abbrev pub waiting_view : Waiting → spec.Waiting
-waiting_view w = record { at = w.at; room = w.room; held = plain_events w.held.items }
+waiting_view w = record { at = w.at; room = w.room; held = plain_events (held_items (option_map deque_items w.held)) }

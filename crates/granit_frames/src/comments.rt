@@ -1,10 +1,12 @@
 //! Comments: where they stand, and those that wait for a node (YAML 1.2.2, 6.6).
 ghost use Rattle.std.specs.Prelude.{◌≡◌, ◌<◌, ◌-◌, [], ◌∷◌, ◌++◌, Some, OnOk};
+ghost use Rattle.std.specs.Option.{option_map};
+ghost use Rattle.std.specs.VecDeque.{deque_items};
 ghost use Rattle.granit_event.specs.Events.{plain_event, plain_events};
 ghost use Rattle.granit_items.specs.ItemViews.{note_view};
 ghost use Rattle.granit_refused.specs.Answered.{answered};
 ghost use Rattle.granit_frames.specs.Refusing.{RefusesByFault};
-ghost use Rattle.granit_frames.specs.StateViews.{waiting_view};
+ghost use Rattle.granit_frames.specs.StateViews.{held_items, waiting_view};
 ghost use Rattle.granit_machine.specs.Leaving.{LeavesIfRoom};
 ghost use Rattle.granit_machine.specs.Parser as spec;
 
@@ -14,6 +16,7 @@ use granit_error::{ErrorKind, ScanError};
 use granit_event::Event;
 use granit_items::Note;
 use granit_refused::{Refused, refuse};
+use std::collections::VecDeque;
 
 /// Where a comment stands, by the line of what comes behind it.
 fn placed(note: &Note<'_>, next_line: Option<usize>) -> Placement
@@ -45,12 +48,19 @@ impl<'input> Waiting<'input> {
         ensures { OnOk result (waiting_view self.new ≡ record
             (waiting_view self.old) {
               room = self.old.room - 1;
-              held = plain_events self.old.held.items ++
+              held = plain_events (held_items (option_map deque_items self.old.held)) ++
                   plain_event (event.entry, span) ∷ [];
             }) }
     {
         self.room -= 1;
-        self.held.push_back((event, span))?;
+        match &mut self.held {
+            Some(held) => held.push_back((event, span))?,
+            None => {
+                let mut held = VecDeque::new(self.alloc);
+                held.push_back((event, span))?;
+                self.held = Some(held);
+            }
+        }
         Ok(())
     }
 }

@@ -20,7 +20,6 @@ use granit_nesting::{Frame, PairStage};
 use granit_node_properties::{null_event, null_of};
 use granit_refused::{Refused, refuse};
 use std::alloc::Global;
-use std::collections::VecDeque;
 
 /// Where a pair stands behind a node.
 fn finished_stage(stage: PairStage) -> PairStage
@@ -330,8 +329,9 @@ impl<'input> ParserState<'input> {
         self.flush()?;
         self.waiting = Some(Waiting {
             at: mark,
+            alloc,
             room,
-            held: VecDeque::new(alloc),
+            held: None,
         });
         Ok(())
     }

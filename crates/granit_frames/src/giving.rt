@@ -2,9 +2,10 @@
 ghost use Rattle.std.specs.Prelude.{◌≡◌, ◌-◌, ◌==◌, ◌++◌, ◌∷◌, [], false, not, None, length, drop};
 ghost use Rattle.std.specs.Prelude.{slice_get, IsOk, OnOk};
 ghost use Rattle.std.specs.Option.{option_map};
+ghost use Rattle.std.specs.VecDeque.{deque_items};
 ghost use Rattle.granit_error.specs.OptionsView.{options_of};
-ghost use Rattle.granit_event.specs.Events.{event_kind, plain_event};
-ghost use Rattle.granit_frames.specs.StateViews.{has_properties};
+ghost use Rattle.granit_event.specs.Events.{event_kind, plain_event, plain_events};
+ghost use Rattle.granit_frames.specs.StateViews.{has_properties, held_items};
 ghost use Rattle.granit_machine.specs.Giving as giving;
 ghost use Rattle.granit_node_properties.specs.PropertyViews.{anchor_view, properties_view, bears};
 
@@ -15,6 +16,7 @@ use granit_event::Event;
 use granit_node_properties::{
     NodeAnchor, NodeProperties, anchor_number, bear, null_event, span_with_tag, tag_value,
 };
+use std::collections::VecDeque;
 
 // Events and held comments.
 impl<'input> ParserState<'input> {
@@ -53,11 +55,24 @@ impl<'input> ParserState<'input> {
     {
         match self.waiting.take() {
             None => Ok(()),
-            Some(mut waiting) => {
-                self.given.append(&mut waiting.held)?;
-                Ok(())
-            }
+            Some(waiting) => self.give_held(waiting.held),
         }
+    }
+
+    /// Gives comments that were held, where one was.
+    fn give_held(&mut self, held: Option<VecDeque<(Event<'input>, Span)>>) -> Result<(), NoMemory>
+        ensures leaves { OnOk result (self.new
+            ≡ record self.old {
+              given = self.old.given ++
+                  plain_events (held_items (option_map deque_items held.entry));
+            }) }
+        ensures kept { self.new.kept ≡ self.old.kept }
+        ensures memory { held.entry ≡ None → IsOk result }
+    {
+        if let Some(mut held) = held {
+            self.given.append(&mut held)?;
+        }
+        Ok(())
     }
 
     /// Gives an event.

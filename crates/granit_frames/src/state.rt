@@ -32,10 +32,12 @@ pub enum DocumentStage {
 pub(crate) struct Waiting<'input> {
     /// Where its node stands if it stays empty.
     pub(crate) at: Marker,
+    /// Where room for comments comes from.
+    pub(crate) alloc: Global,
     /// How many comments may still come.
     pub(crate) room: usize,
-    /// Those that came.
-    pub(crate) held: VecDeque<(Event<'input>, Span)>,
+    /// Those that came, where one did.
+    pub(crate) held: Option<VecDeque<(Event<'input>, Span)>>,
 }
 
 /// What a parser keeps between lexemes: the unfinished nodes, what is declared, what waits, and the events that it

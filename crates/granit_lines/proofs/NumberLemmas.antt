@@ -1,11 +1,12 @@
 -- Numbers as a front and two digits.
-use Rattle.std.proofs.Common.{◌≡◌, ℕ, ◌+◌, ◌-◌, ◌*◌, ◌/◌, ◌%◌, ◌^◌, ◌<◌, ◌≤◌, ◌==◌}
+use Rattle.std.proofs.Common.{◌≡◌, ℕ, zero, suc, ◌+◌, ◌-◌, ◌*◌, ◌/◌, ◌%◌, ◌^◌, ◌<◌, ◌≤◌, ◌==◌}
 use Rattle.std.proofs.Common.{if◌then◌else◌, true, false, List, [], ◌∷◌, ◌++◌, length, take, drop, map}
-use Rattle.std.proofs.Common.{get_or, refl, ap, ◌∙◌, arith, decimal}
+use Rattle.std.proofs.Common.{set, get_or, refl, sym, ap, ap₂, ◌∙◌, inl, inr, arith, decimal, eq-zero-or-pos}
 use Rattle.std.specs.List.{range_with_len}
 use Rattle.std.proofs.lemmas.Bool.Decides.{nat_tests}
-use Rattle.std.proofs.lemmas.Fmt.{length-decimal-le}
-use Rattle.std.proofs.lemmas.List.{append-nil, drop_all, take_all}
+use Rattle.std.proofs.lemmas.Fmt.{decimal_digit, decimal_nonempty, decimal_step, length-decimal-le}
+use Rattle.std.proofs.lemmas.List.{append-nil, drop_all, same_from_push, take_all, take_more}
+use Rattle.std.proofs.lemmas.List.{take_more_set}
 use Rattle.std.proofs.lemmas.List.FromFn.{get_or-map-range_with_len}
 use Rattle.itoa.proofs.Decimal.{decimal_pair}
 use Rattle.granit_lines.specs.declared.numbers.TheConstants.{PAIRS}
@@ -59,3 +60,53 @@ written_digits buffer digits old end start is long parts =
     ap (take (end - start)) (is ∙ ap (λ (xs : List ℕ). digits ++ xs) (drop_all end old (omega (arith, long)))
     ∙ append-nil digits)
     ∙ take_all (end - start) digits (omega (arith, parts))
+
+-- ---- the next hundred
+
+-- a number and the next one differ in the last digit, where that is below nine
+parted : (k : ℕ) → k < 10 ^ 8 → (front : List ℕ) × (decimal k ≡ front ++ (48 + k % 10) ∷ [])
+    × (k % 10 < 9 → decimal (k + 1) ≡ front ++ (48 + k % 10 + 1) ∷ [])
+parted k small =
+    elim (eq-zero-or-pos (k / 10)) [
+      | inl z ↦ let low : k < 10 = omega (arith, z) in let last : k ≡ k % 10 = omega arith in (
+        [],
+        decimal_digit k low ∙ ap (λ (d : ℕ). (48 + d) ∷ []) last,
+        λ less. decimal_digit (k + 1) (omega (arith, last, less)) ∙ ap (λ (d : ℕ). d ∷ []) (omega (arith, last)),
+      )
+      | inr p ↦ let high : 10 ≤ k = omega (arith, p) in (
+        decimal (k / 10),
+        decimal_step k high (omega (arith, small)),
+        λ less. decimal_step (k + 1) (omega (arith, high)) (omega (arith, small))
+            ∙ ap₂ (λ (f d : ℕ). decimal f ++ d ∷ []) (omega (arith, less)) (omega (arith, less)),
+      )
+    ]
+
+pub some_digit : (k count : ℕ) (digits : List ℕ) → k < 10 ^ 8 → take count digits ≡ decimal k → 1 ≤ count
+some_digit k zero digits small told = absurd (omega (arith, decimal_nonempty k (omega (arith, small)), ap length told))
+some_digit k (suc m) digits small told = omega arith
+
+last_told : (count : ℕ) (digits front : List ℕ) (d : ℕ) → 1 ≤ count → count ≤ length digits
+    → take count digits ≡ front ++ d ∷ [] → (take (count - 1) digits ≡ front) × (get_or digits (count - 1) 0 ≡ d)
+last_told count digits front d some few told =
+    let whole : count ≡ count - 1 + 1 = omega (arith, some) in
+    same_from_push (take (count - 1) digits) front (get_or digits (count - 1) 0) d
+    (sym (take_more digits (count - 1) 0 (omega (arith, some, few)))
+    ∙ ap (λ (n : ℕ). take n digits) (sym whole) ∙ told)
+
+pub last_digit : (k count : ℕ) (digits : List ℕ) → k < 10 ^ 8 → count ≤ length digits
+    → take count digits ≡ decimal k → get_or digits (count - 1) 0 ≡ 48 + k % 10
+last_digit k count digits small few told =
+    let p = parted k small in
+    (last_told count digits p.0 (48 + k % 10) (some_digit k count digits small told) few (told ∙ p.1)).1
+
+pub last_raised : (k count : ℕ) (digits : List ℕ) → k < 10 ^ 8 → count ≤ length digits
+    → take count digits ≡ decimal k → k % 10 < 9
+    → take count (set digits (count - 1) (get_or digits (count - 1) 0 + 1)) ≡ decimal (k + 1)
+last_raised k count digits small few told less =
+    let p = parted k small in
+    let some = some_digit k count digits small told in
+    let last = last_told count digits p.0 (48 + k % 10) some few (told ∙ p.1) in
+    let whole : count ≡ count - 1 + 1 = omega (arith, some) in
+    ap (λ (n : ℕ). take n (set digits (count - 1) (get_or digits (count - 1) 0 + 1))) whole
+    ∙ take_more_set digits (count - 1) (get_or digits (count - 1) 0 + 1) (omega (arith, some, few))
+    ∙ ap₂ (λ (f : List ℕ) (d : ℕ). f ++ (d + 1) ∷ []) last.0 last.1 ∙ sym (p.2 less)

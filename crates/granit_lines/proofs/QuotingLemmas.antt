@@ -1,13 +1,13 @@
 -- What stands for itself between quotes.
 use Rattle.std.proofs.Common.{◌≡◌, ℕ, suc, ◌+◌, ◌-◌, ◌<◌, ◌≤◌, Bool, true, false, List, [], ◌∷◌, ◌++◌, length, take}
 use Rattle.std.proofs.Common.{drop, map, get_or, refl, sym, ap, ap₂, subst, ◌∙◌, arith, length-append}
-use Rattle.std.proofs.Common.{append_assoc, codes, take-append-drop}
+use Rattle.std.proofs.Common.{append_assoc, take-append-drop}
 use Rattle.std.specs.Prelude.{nat_le, ◌==◌, ◌&&◌, ◌||◌}
 use Rattle.std.specs.List.{All, range_with_len}
 use Rattle.std.specs.Str.{chars, IsAscii, IsUtf8, IsCharBoundary}
 use Rattle.std.proofs.lemmas.Bool.Decides.{nat_tests}
 use Rattle.std.proofs.lemmas.Grind.{flat_map-append}
-use Rattle.std.proofs.lemmas.List.{append-nil, take_all, take_more}
+use Rattle.std.proofs.lemmas.List.{take_more}
 use Rattle.std.proofs.lemmas.List.Elements.{All-push}
 use Rattle.std.proofs.lemmas.List.FromFn.{get_or-map-range_with_len}
 use Rattle.std.proofs.lemmas.Str.{chars-append, chars-IsAscii, IsCharBoundary-from_take, IsUtf8-from_ascii}
@@ -87,30 +87,18 @@ quoted_front bs n front behind plain is rest =
     ∙ ap₂ (λ (a b : List ℕ). a ++ b) (themselves (take n bs) plain ∙ sym first)
     (ap (λ (r : List ℕ). quoted_line_text (chars r)) (sym rest))
 
+pub front_put : (bs : List ℕ) (n : ℕ) (old now behind : List ℕ) → All (λ b. is_plain b ≡ true) (take n bs)
+    → now ≡ old ++ take n bs → behind ≡ drop n bs
+    → now ++ quoted_line_text (chars behind) ≡ old ++ quoted_line_text (chars bs)
+front_put bs n old now behind plain put rest =
+    let all : take n bs ≡ take (n - 0) (drop 0 bs) = ap (λ (k : ℕ). take k bs) (omega arith) in
+    ap (λ (xs : List ℕ). xs ++ quoted_line_text (chars behind)) put
+    ∙ append_assoc old (take n bs) (quoted_line_text (chars behind))
+    ∙ ap (λ (xs : List ℕ). old ++ xs) (sym (quoted_front bs n (take n bs) behind plain all rest))
+
 pub fewer_behind : (bs : List ℕ) (n : ℕ) (behind : List ℕ) → All (λ b. is_plain b ≡ true) (take n bs)
     → behind ≡ drop n bs → length (chars behind) ≤ length (chars bs)
 fewer_behind bs n behind plain rest =
     let all : length (chars bs) ≡ length (take n bs) + length (chars (drop n bs)) =
     ap length (chars_cut bs n plain) ∙ length-append (take n bs) (chars (drop n bs)) in
     rw (rest, all) (omega arith)
-
--- a text that stands for itself, all of it
-pub text_itself : (bs cs : List ℕ) (n : ℕ) → All (λ b. is_plain b ≡ true) (take n bs) → length bs ≤ n → chars bs ≡ cs
-    → quoted_line_text cs ≡ take n bs
-text_itself bs cs n plain all told =
-    let whole : take n bs ≡ bs = take_all n bs all in
-    let each = subst (All (λ b. is_plain b ≡ true)) whole plain in
-    ap quoted_line_text (sym told ∙ chars-IsAscii bs (plain_ascii bs each)) ∙ themselves bs each ∙ sym whole
-
--- words, a quote, a text and a quote behind one another are a scalar without properties
-pub scalar_put : (old words text quoted first then all : List ℕ) → first ≡ old ++ (words ++ codes "\"")
-    → then ≡ first ++ text → all ≡ then ++ codes "\"" → quoted ≡ text
-    → all ≡ old ++ ((words ++ ((codes "\"" ++ quoted) ++ codes "\"")) ++ [])
-scalar_put old words text quoted first then all one two three is =
-    three ∙ ap (λ (xs : List ℕ). xs ++ codes "\"") (two ∙ ap (λ (xs : List ℕ). xs ++ text) one)
-    ∙ append_assoc (old ++ (words ++ codes "\"")) text (codes "\"")
-    ∙ append_assoc old (words ++ codes "\"") (text ++ codes "\"")
-    ∙ ap (λ (xs : List ℕ). old ++ xs)
-    (append_assoc words (codes "\"") (text ++ codes "\"")
-    ∙ sym (append-nil (words ++ (codes "\"" ++ (text ++ codes "\"")))))
-    ∙ ap (λ (t : List ℕ). old ++ ((words ++ ((codes "\"" ++ t) ++ codes "\"")) ++ [])) (sym is)

@@ -3,7 +3,7 @@ use Rattle.std.proofs.Common.{◌≡◌, ℕ, ◌+◌, ◌<◌, ◌≤◌, List,
 use Rattle.std.proofs.Common.{arith, append_assoc, length-set}
 use Rattle.std.proofs.Math.Seq.{take-append-add}
 use Rattle.std.proofs.lemmas.Grind.{take-set_at}
-use Rattle.std.proofs.lemmas.List.{length-take-le, take_all, take_more, take-append-le, take-take}
+use Rattle.std.proofs.lemmas.List.{length-take-le, take_all, take_more, take-take}
 
 -- one more byte of those that are put
 pub byte_more : (room old bytes : List ℕ) (at count : ℕ) → count < length bytes → at + count < length room
@@ -65,11 +65,3 @@ piece_front now old piece at n count within few put =
     sym (take-take (at + count) n now few) ∙ ap (take (at + count)) put
     ∙ ap (λ (m : ℕ). take (m + count) (take at old ++ piece)) (sym (length-take-le at old within))
     ∙ take-append-add (take at old) piece count
-
--- what stands before the pieces is as it was
-pub kept_front : (now old more : List ℕ) (at n : ℕ) → at ≤ n → at ≤ length old → take n now ≡ take at old ++ more
-    → take at now ≡ take at old
-kept_front now old more at n before within put =
-    sym (take-take at n now before) ∙ ap (take at) put
-    ∙ take-append-le at (take at old) more (omega (arith, length-take-le at old within))
-    ∙ take-take at at old (omega arith)

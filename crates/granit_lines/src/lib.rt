@@ -5,6 +5,7 @@ mod numbers;
 mod page;
 mod places;
 mod printing;
+mod quoted;
 mod quoting;
 mod room;
 mod usual;

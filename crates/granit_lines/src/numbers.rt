@@ -38,11 +38,31 @@ impl LeadingDigits {
         }
     }
 
-    /// Those of a number of three digits or more.
+    /// Those of a number of three digits or more, which mostly stands in the next hundred.
+    fn behind(&self, n: usize) -> LeadingDigits
+        requires large { 100 ≤ n }
+        requires near { n < 10 ^ 10 }
+        ensures { result.base ≡ n - n % 100 }
+    {
+        let last = self.count - 1;
+        if n / 100 != self.base / 100 + 1 || self.digits[last] == b'9' {
+            return LeadingDigits::of(n);
+        }
+        let mut digits = self.digits;
+        digits[last] += 1;
+        LeadingDigits {
+            base: n - n % 100,
+            digits,
+            count: self.count,
+        }
+    }
+
+    /// Those of any.
     #[inline(never)]
     fn of(n: usize) -> LeadingDigits
         requires large { 100 ≤ n }
         requires near { n < 10 ^ 10 }
+        ensures { result.base ≡ n - n % 100 }
     {
         let mut buffer = [0; 8];
         let start = write_digits((n / 100) as u64, &mut buffer, 8);
@@ -111,6 +131,18 @@ fn put_any(room: &mut [u8], at: usize, n: usize) -> usize
     put_bytes(room, at, &buffer[start..])
 }
 
+/// A number by the leading digits that are kept; where it ends.
+#[inline(always)]
+fn put_near(leading: &LeadingDigits, room: &mut [u8], at: usize, pair: usize) -> usize
+    requires room { at + 20 ≤ length room.old }
+    requires near { pair < 100 }
+    ensures end { result ≤ at + 20 }
+    ensures put { take result room.new ≡ take at room.old ++ decimal (leading.now.base + pair) }
+{
+    put_eight(room, at, leading.digits);
+    put_pair(room, at + leading.count, pair)
+}
+
 /// A number with other leading digits than those that are kept, in whose place its own are kept then; where it ends.
 #[inline(never)]
 fn put_far(leading: &mut LeadingDigits, room: &mut [u8], at: usize, n: usize) -> usize
@@ -119,10 +151,11 @@ fn put_far(leading: &mut LeadingDigits, room: &mut [u8], at: usize, n: usize) ->
     ensures end { result ≤ at + 20 }
     ensures put { take result room.new ≡ take at room.old ++ decimal n }
 {
-    if n < FAR {
-        *leading = LeadingDigits::of(n);
+    if n >= FAR {
+        return put_any(room, at, n);
     }
-    put_any(room, at, n)
+    *leading = leading.behind(n);
+    put_near(leading, room, at, n % 100)
 }
 
 /// A number behind so many bytes; where it ends.
@@ -139,6 +172,5 @@ pub fn put_number(leading: &mut LeadingDigits, room: &mut [u8], at: usize, n: us
     if pair >= 100 {
         return put_far(leading, room, at, n);
     }
-    put_eight(room, at, leading.digits);
-    put_pair(room, at + leading.count, pair)
+    put_near(leading, room, at, pair)
 }

@@ -12,8 +12,8 @@ use granit_event::Event;
 use std::alloc::Global;
 use std::marker::Model;
 
-/// What a usual line takes at most: an event of 129 bytes and a span of 127.
-const LINE: usize = 256;
+/// What a usual line takes at most: an event of 641 bytes and a span of 127.
+const LINE: usize = 768;
 
 /// What room grows by.
 const MORE: usize = 1024;
@@ -83,7 +83,7 @@ fn make_room(bytes: &mut Vec<u8>, count: usize) -> Result<(), NoMemory>
     requires within { count ≤ length bytes.old.items }
     ensures within { count ≤ length bytes.new.items }
     ensures kept { take count bytes.new.items ≡ take count bytes.old.items }
-    ensures room { OnOk result (count + 256 ≤ length bytes.new.items) }
+    ensures room { OnOk result (count + 768 ≤ length bytes.new.items) }
 {
     if bytes.len() - count < LINE {
         return enlarge(bytes, count);
@@ -97,7 +97,7 @@ fn enlarge(bytes: &mut Vec<u8>, count: usize) -> Result<(), NoMemory>
     requires within { count ≤ length bytes.old.items }
     ensures within { count ≤ length bytes.new.items }
     ensures kept { take count bytes.new.items ≡ take count bytes.old.items }
-    ensures room { OnOk result (count + 256 ≤ length bytes.new.items) }
+    ensures room { OnOk result (count + 768 ≤ length bytes.new.items) }
 {
     let more = bytes.len() + MORE;
     bytes.resize(more, 0)?;
@@ -112,7 +112,7 @@ fn put_words(
     count: usize,
     event: &Event,
 ) -> Result<usize, NoMemory>
-    requires room { count + 256 ≤ length bytes.old.items }
+    requires room { count + 768 ≤ length bytes.old.items }
     ensures within { count ≤ length bytes.new.items }
     ensures put { IfOk result (λ end. take end bytes.new.items
         ≡ take count bytes.old.items ++ line.event_words (event_kind event.now)) }

@@ -1,11 +1,12 @@
 //! Texts between quotes.
-ghost use Rattle.std.specs.Prelude.{◌≡◌, ◌<◌, ◌≤◌, ◌^◌, ◌++◌, length, take, drop, true, false, OnOk};
-ghost use Rattle.std.specs.Fmt.{digit_glyph, digits_onto, radix_digits};
+ghost use Rattle.std.specs.Prelude.{◌≡◌, ◌+◌, ◌<◌, ◌≤◌, ◌++◌, length, take, true, false, OnOk};
+ghost use Rattle.std.specs.Fmt.{digit_glyph, radix_digits};
 ghost use Rattle.std.specs.List.{All};
 ghost use Rattle.std.specs.Str.{chars};
 ghost use Rattle.granit_lexemes.specs.Line as line;
 ghost use Rattle.granit_lines.specs.Pieces.{is_plain};
 
+use crate::room::put_byte;
 use granit_base::{NoMemory, is_at_end, split_first_char};
 
 /// A text in its quotes.
@@ -96,37 +97,28 @@ fn push_quoted_char(out: &mut Vec<u8>, c: char) -> Result<(), NoMemory>
     Ok(())
 }
 
-/// The bytes that stand behind so many.
-fn push_behind(out: &mut Vec<u8>, bytes: &[u8], count: usize) -> Result<(), NoMemory>
-    requires { count ≤ length bytes.now }
-    ensures { OnOk result (out.new.items ≡ out.old.items ++ drop count bytes.now) }
-{
-    out.extend_from_slice(&bytes[count..])?;
-    Ok(())
-}
-
 /// A number in hexadecimal digits.
 fn push_hex(out: &mut Vec<u8>, n: u32) -> Result<(), NoMemory>
     ensures { OnOk result (out.new.items ≡ out.old.items ++ radix_digits 16 false n) }
 {
     let mut digits = [0; 8];
-    let start = put_hex(&mut digits, 8, n);
-    push_behind(out, &digits, start)
+    let end = put_hex(&mut digits, 0, n);
+    out.extend_from_slice(&digits[..end])?;
+    Ok(())
 }
 
-/// The same at the end of a buffer's front; where they begin.
-#[tactic(auto, using(crate::proofs::HexLemmas::digit_less))]
-fn put_hex(digits: &mut [u8], end: usize, n: u32) -> usize
-    requires room { (0 < end) × (end ≤ length digits.old) × (n < 16 ^ end) }
-    ensures within { result ≤ end }
-    ensures put { drop result digits.new ≡ digits_onto end 16 false n (drop end digits.old) }
+/// The same behind so many bytes of a room; where it ends.
+#[tactic(auto, using(crate::proofs::HexLemmas::one_digit))]
+pub fn put_hex(room: &mut [u8], at: usize, n: u32) -> usize
+    requires room { at + length (radix_digits 16 false n) ≤ length room.old }
+    ensures end { result ≡ at + length (radix_digits 16 false n) }
+    ensures put { take result room.new ≡ take at room.old ++ radix_digits 16 false n }
 {
-    let at = end - 1;
-    digits[at] = hex_digit(n % 16);
     if n < 16 {
-        return at;
+        return put_byte(room, at, hex_digit(n));
     }
-    put_hex(digits, at, n / 16)
+    let last = put_hex(room, at, n / 16);
+    put_byte(room, last, hex_digit(n % 16))
 }
 
 fn hex_digit(digit: u32) -> u8

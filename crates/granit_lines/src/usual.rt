@@ -1,10 +1,11 @@
-//! Events as most are: without properties, and with a short text that stands for itself.
+//! Events as most are: without properties, and with a short text.
 ghost use Rattle.std.specs.Prelude.{◌≡◌, ◌+◌, ◌≤◌, ◌++◌, codes, length, take, true, None, IfSome};
 ghost use Rattle.granit_lexemes.specs.Line as line;
 ghost use Rattle.granit_lexemes.specs.PlainEvent as plain;
 ghost use Rattle.granit_event.specs.Events.{event_kind};
 
-use crate::room::{put_byte, put_plain, put_word};
+use crate::quoted::put_quoted;
+use crate::room::{put_byte, put_word};
 use granit_base::{ScalarStyle, StructureStyle, Text};
 use granit_event::{Event, Tag};
 
@@ -31,8 +32,8 @@ fn put_scalar_words(room: &mut [u8], at: usize, style: ScalarStyle) -> usize
 /// A scalar with a usual text; where it ends.
 #[inline(always)]
 fn put_scalar(room: &mut [u8], at: usize, text: &Text, style: ScalarStyle) -> Option<usize>
-    requires room { at + 129 ≤ length room.old }
-    ensures end { IfSome result (λ end. end ≤ at + 129) }
+    requires room { at + 641 ≤ length room.old }
+    ensures end { IfSome result (λ end. end ≤ at + 641) }
     ensures put { IfSome result (λ end. take end room.new
         ≡ take at room.old ++ line.event_words (plain.Scalar text.now style 0 None)) }
     ensures kept { result ≡ None → take at room.new ≡ take at room.old }
@@ -42,11 +43,8 @@ fn put_scalar(room: &mut [u8], at: usize, text: &Text, style: ScalarStyle) -> Op
         return None;
     }
     let start = put_scalar_words(room, at, style);
-    let count = put_plain(room, start, text.as_bytes());
-    if count < text.len() {
-        return None;
-    }
-    Some(put_byte(room, start + count, b'"'))
+    let end = put_quoted(room, start, text);
+    Some(put_byte(room, end, b'"'))
 }
 
 /// The start of a sequence; where it ends.
@@ -88,8 +86,8 @@ fn is_unmarked(anchor: usize, tag: &Option<Tag>) -> bool
 /// A usual event without its span, behind so many bytes; where it ends.
 #[inline(always)]
 pub fn put_usual(room: &mut [u8], at: usize, event: &Event) -> Option<usize>
-    requires room { at + 129 ≤ length room.old }
-    ensures end { IfSome result (λ end. end ≤ at + 129) }
+    requires room { at + 641 ≤ length room.old }
+    ensures end { IfSome result (λ end. end ≤ at + 641) }
     ensures put { IfSome result (λ end. take end room.new
         ≡ take at room.old ++ line.event_words (event_kind event.now)) }
     ensures kept { result ≡ None → take at room.new ≡ take at room.old }

@@ -1,8 +1,8 @@
 -- Numbers of waiting lexemes that rise.
 use Rattle.std.proofs.Common.{◌≡◌, ◌≤◌, ◌<◌, ◌||◌, ℕ, suc, Bool, true, false, List, [], ◌∷◌, ◌++◌, length, map, set}
 use Rattle.std.proofs.Common.{take, drop, get_or, Option, Some, None, true≢false, refl, sym, ap, subst, ⊎_elim, ◌∙◌}
-use Rattle.std.proofs.Common.{arith, max}
-use Rattle.std.specs.Prelude.{nat_le, nat_lt}
+use Rattle.std.proofs.Common.{arith, max, Result, Ok, Err}
+use Rattle.std.specs.Prelude.{nat_le, nat_lt, OnErr, OnOk}
 use Rattle.std.proofs.lemmas.Bool.{and_parts, cases_eq, cases_lt}
 use Rattle.std.proofs.lemmas.Bool.Decides.{nat_tests}
 use Rattle.std.proofs.lemmas.Grind.{common_steps}
@@ -14,7 +14,7 @@ use Rattle.std.proofs.Math.Seq.{map-set_same}
 use Rattle.granit_items.specs.ItemViews.{item_view}
 use Rattle.granit_lexemes.specs.Lexeme.{Item, OfLexeme, OfComment}
 use Rattle.granit_machine.specs.Lexing.{FlaggedItem}
-use Rattle.granit_queue.specs.QueueViews.{flags_of, is_numbered, queue_view, queued_view}
+use Rattle.granit_queue.specs.QueueViews.{flags_of, is_numbered, queue_view, queued_view, with_oldest}
 use Rattle.granit_queue.specs.Rising.{lexeme_number, NumberUpTo, Rises, NumbersRise, with_one_waiting, is_before}
 use Rattle.granit_queue.specs.declared.queue.Queued.{Queued}
 use Rattle.granit_queue.specs.declared.rising.Numbers.{Numbers}
@@ -70,11 +70,25 @@ noted o (Some n) fs r = record {
   last = λ k d low. further (lexeme_number (get_or fs k d).item) o.last (max o.last n) (r.last k d low) (omega arith);
 }
 
+-- an item comes behind the others, unless memory runs out
+pub pushed_or_not : {X E : Type 0} (r : Result X E) (o : Numbers) (qs new : List Queued) (q : Queued)
+    → OnOk r (new ≡ qs ++ q ∷ []) → OnErr r (new ≡ qs) → NumbersRise o (queue_view qs)
+    → NumbersRise (with_one_waiting (lexeme_number (item_view q.item)) o) (queue_view new)
+pushed_or_not (Ok x) o qs new q more kept rises = rw more (pushed o qs q rises)
+pushed_or_not (Err e) o qs new q more kept rises =
+    rw kept (noted o (lexeme_number (item_view q.item)) (queue_view qs) rises)
+
+-- those behind the oldest rise with it
+pub behind : (oldest : Option Queued) (qs : List Queued) → Rises (queue_view (with_oldest oldest qs))
+    → Rises (queue_view qs)
+behind None qs r = r
+behind (Some q) qs r = λ i j d lt low. r (suc i) (suc j) d (omega arith) (omega arith)
+
 -- the oldest one goes
 popped : (o : Numbers) (q : Queued) (qs : List Queued) → NumbersRise o (queue_view (q ∷ qs))
     → NumbersRise o (queue_view qs)
 popped o q qs r = record {
-  order = λ told i j d lt low. r.order told (suc i) (suc j) d (omega arith) (omega arith);
+  order = λ told. behind (Some q) qs (r.order told);
   last = λ k d low. r.last (suc k) d (omega arith);
 }
 

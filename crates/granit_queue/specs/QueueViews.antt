@@ -1,5 +1,5 @@
 -- What the code's queue says.
-use Rattle.std.specs.Prelude.{ℕ, Bool, false, ◌==◌, ◌||◌, List, map}
+use Rattle.std.specs.Prelude.{ℕ, Bool, false, ◌==◌, ◌||◌, List, ◌∷◌, map, Option, Some, None}
 use Rattle.granit_items.specs.ItemViews.{item_view}
 use Rattle.granit_lexemes.specs.Lexeme.{Item, OfLexeme, OfComment}
 use Rattle.granit_machine.specs.Lexing.{FlaggedItem}
@@ -10,6 +10,11 @@ queued_view q = record { item = item_view q.item; begins_key = q.begins_key }
 
 abbrev pub queue_view : List Queued → List FlaggedItem
 queue_view qs = map queued_view qs
+
+-- the oldest, where it stands by itself, and those behind it
+abbrev pub with_oldest : Option Queued → List Queued → List Queued
+with_oldest None behind = behind
+with_oldest (Some oldest) behind = oldest ∷ behind
 
 -- whether an item is the lexeme of a number
 abbrev pub is_numbered : ℕ → Item → Bool

@@ -2,6 +2,7 @@
 #![tactic(auto)]
 
 mod ahead;
+mod items;
 mod queue;
 mod rising;
 

@@ -1,17 +1,17 @@
 //! Items that were read and not yet taken.
-ghost use Rattle.std.specs.Prelude.{◌≡◌, ◌||◌, ◌==◌, true, false, [], ◌∷◌, length, map, Some, OnOk};
+ghost use Rattle.std.specs.Prelude.{◌≡◌, ◌==◌, true, false, [], ◌∷◌, length, map, OnOk};
 ghost use Rattle.std.specs.Prelude.{slice_get, drop, take};
 ghost use Rattle.std.specs.Option.{option_copied, option_map};
 ghost use Rattle.granit_items.specs.ItemViews.{found_items, item_view, key_view};
-ghost use Rattle.granit_queue.specs.QueueViews.{flags_of, is_numbered, queue_view, queued_view};
+ghost use Rattle.granit_queue.specs.QueueViews.{queue_view, queued_view};
 ghost use Rattle.granit_queue.specs.Rising.{NumbersRise, Rises};
 ghost use Rattle.granit_steps.specs.Steps as spec;
 
-use crate::rising::{Numbers, is_before};
+use crate::items::Items;
+use crate::rising::Numbers;
 use granit_base::NoMemory;
 use granit_items::{Found, Item, KeyStart, Rooms};
 use std::alloc::Global;
-use std::collections::VecDeque;
 use std::marker::Model;
 
 /// An item, and whether a simple key begins with it.
@@ -26,7 +26,7 @@ pub struct Queued<'input> {
 /// The items that were read and not yet taken, the oldest first.
 #[derive(Drop)]
 pub struct Queue<'input> {
-    items: VecDeque<Queued<'input>>,
+    items: Items<'input>,
     numbers: Numbers,
 }
 
@@ -38,9 +38,9 @@ impl<'input> Model for Queue<'input> {
 
     ghost Value = { List FlaggedItem };
 
-    ghost view = { λ q. queue_view q.items.items };
+    ghost view = { λ q. queue_view q.items };
 
-    ghost invariant = { λ q. NumbersRise q.numbers (queue_view q.items.items) };
+    ghost invariant = { λ q. NumbersRise q.numbers (queue_view q.items) };
 }
 
 impl<'input> Queue<'input> {
@@ -49,7 +49,7 @@ impl<'input> Queue<'input> {
         ensures { result ≡ [] }
     {
         Queue {
-            items: VecDeque::new(alloc),
+            items: Items::new(alloc),
             numbers: Numbers::new(),
         }
     }
@@ -97,7 +97,7 @@ impl<'input> Queue<'input> {
         ensures front { option_map queued_view result ≡ slice_get self.old 0 }
         ensures rest { self.new ≡ drop 1 self.old }
     {
-        self.items.pop_front()
+        self.items.pop()
     }
 
     /// No more than the oldest ones stay.
@@ -110,15 +110,15 @@ impl<'input> Queue<'input> {
 }
 
 fn push_all<'input>(
-    items: &mut VecDeque<Queued<'input>>,
+    items: &mut Items<'input>,
     numbers: &mut Numbers,
     found: Found<'input>,
     rooms: &mut Rooms<'input>,
 ) -> Result<(), NoMemory>
-    requires rising { NumbersRise numbers.old (queue_view items.old.items) }
-    ensures pushed { OnOk result (queue_view items.new.items
-        ≡ spec.pushed (queue_view items.old.items) (found_items found.entry)) }
-    ensures rising { NumbersRise numbers.new (queue_view items.new.items) }
+    requires rising { NumbersRise numbers.old (queue_view items.old) }
+    ensures pushed { OnOk result (queue_view items.new
+        ≡ spec.pushed (queue_view items.old) (found_items found.entry)) }
+    ensures rising { NumbersRise numbers.new (queue_view items.new) }
 {
     // No `:` was read behind what was found.
     let begins_key = false;
@@ -143,23 +143,19 @@ fn push_all<'input>(
 
 #[inline(always)]
 fn push<'input>(
-    items: &mut VecDeque<Queued<'input>>,
+    items: &mut Items<'input>,
     numbers: &mut Numbers,
     queued: Queued<'input>,
 ) -> Result<(), NoMemory>
     requires unflagged { queued.begins_key ≡ false }
-    requires rising { NumbersRise numbers.old (queue_view items.old.items) }
-    ensures pushed { OnOk result (queue_view items.new.items
-        ≡ spec.pushed (queue_view items.old.items) (item_view queued.entry.item ∷ [])) }
-    ensures rising { NumbersRise numbers.new (queue_view items.new.items) }
+    requires rising { NumbersRise numbers.old (queue_view items.old) }
+    ensures pushed { OnOk result (queue_view items.new
+        ≡ spec.pushed (queue_view items.old) (item_view queued.entry.item ∷ [])) }
+    ensures rising { NumbersRise numbers.new (queue_view items.new) }
 {
     mark_by(items, numbers.rises, &queued.item);
     numbers.push(&queued.item);
-    if items.len() >= items.capacity() {
-        items.reserve(1)?;
-    }
-    items.push_back_reserved(queued);
-    Ok(())
+    items.push(queued)
 }
 
 /// The key of a `:`.
@@ -172,66 +168,14 @@ fn key_of(item: &Item<'_>) -> Option<KeyStart>
     }
 }
 
-/// Whether an item is the lexeme of a number.
-fn is_number(item: &Item<'_>, number: usize) -> bool
-    ensures { result ≡ is_numbered number (item_view item.now) }
-{
-    match item {
-        Item::Lexeme(lexeme) => lexeme.number == number,
-        Item::Note(_) => false,
-    }
-}
-
 /// A `:` with a key flags the lexeme that begins it.
 #[tactic(auto, using(crate::proofs::QueueLemmas::no_key_marks, crate::proofs::QueueLemmas::key_marks))]
-fn mark_by(items: &mut VecDeque<Queued<'_>>, rises: bool, item: &Item<'_>)
-    requires rising { rises ≡ true → Rises (queue_view items.old.items) }
-    ensures { queue_view items.new.items ≡ map (spec.marked_by (item_view item.now)) (queue_view items.old.items) }
+fn mark_by(items: &mut Items<'_>, rises: bool, item: &Item<'_>)
+    requires rising { rises ≡ true → Rises (queue_view items.old) }
+    ensures { queue_view items.new ≡ map (spec.marked_by (item_view item.now)) (queue_view items.old) }
 {
     match key_of(item) {
         None => {}
-        Some(key) => mark(items, rises, key.number),
+        Some(key) => items.mark(rises, key.number),
     }
-}
-
-/// Flags the lexeme of a number, which begins a key.
-fn mark(items: &mut VecDeque<Queued<'_>>, rises: bool, number: usize)
-    requires rising { rises ≡ true → Rises (queue_view items.old.items) }
-    ensures { queue_view items.new.items ≡ map (flags_of number) (queue_view items.old.items) }
-{
-    if rises {
-        mark_newest(items, number);
-    } else {
-        mark_all(items, number);
-    }
-}
-
-fn mark_all(items: &mut VecDeque<Queued<'_>>, number: usize)
-    ensures { queue_view items.new.items ≡ map (flags_of number) (queue_view items.old.items) }
-{
-    'items: for i in 0..items.len() {
-        items[i].begins_key = either(items[i].begins_key, is_number(&items[i].item, number));
-    }
-}
-
-/// The same where numbers rise: those before an earlier lexeme are not asked.
-fn mark_newest(items: &mut VecDeque<Queued<'_>>, number: usize)
-    requires rising { Rises (queue_view items.old.items) }
-    ensures { queue_view items.new.items ≡ map (flags_of number) (queue_view items.old.items) }
-{
-    let mut newer = items.len();
-    'items: while newer > 0 {
-        let i = newer - 1;
-        if is_before(&items[i].item, number) {
-            return;
-        }
-        items[i].begins_key = either(items[i].begins_key, is_number(&items[i].item, number));
-        newer = i;
-    }
-}
-
-fn either(a: bool, b: bool) -> bool
-    ensures { result ≡ (a || b) }
-{
-    a || b
 }

@@ -132,41 +132,28 @@ fn behind_indicator<T: Input>(at: &Cursor<T>, c: char) -> char
 
 /// By the first character and the next one; a `:` needs no blank in flow before a flow indicator, or behind a quoted
 /// scalar or a closer (YAML 1.2.2, 7.3.3 and 7.4.2).
-#[tactic(auto, unfolding(granit_machine::specs::LexemeSort::sort_of))]
+#[tactic(auto, unfolding(granit_machine::specs::LexemeSort::sort_of, granit_base::specs::Classes::is_bom))]
 fn sort_of(in_flow: bool, adjacent: bool, c: char, next: char) -> PlacedSort
     ensures { placed_view result ≡ spec.sort_of in_flow adjacent c next }
 {
-    if c == '[' {
-        PlacedSort::OpenSign(Bracket::Square)
-    } else if c == '{' {
-        PlacedSort::OpenSign(Bracket::Curly)
-    } else if c == ']' {
-        PlacedSort::CloseSign(Bracket::Square)
-    } else if c == '}' {
-        PlacedSort::CloseSign(Bracket::Curly)
-    } else if c == ',' {
-        PlacedSort::CommaSign
-    } else if c == '-' && is_blank_or_breakz(next) {
-        PlacedSort::DashSign
-    } else if c == '?' && is_blank_or_breakz(next) {
-        PlacedSort::QuestionSign
-    } else if c == ':' && (is_blank_or_breakz(next) || in_flow && (is_flow(next) || adjacent)) {
-        PlacedSort::ColonSign
-    } else if c == '*' {
-        PlacedSort::AliasSign
-    } else if c == '&' {
-        PlacedSort::AnchorSign
-    } else if c == '!' {
-        PlacedSort::TagSign
-    } else if (c == '|' || c == '>') && !in_flow {
-        PlacedSort::BlockSign(c == '|')
-    } else if c == '\'' || c == '"' {
-        PlacedSort::QuoteSign(c == '\'')
-    } else if is_bom(c) {
-        PlacedSort::StrayMark
-    } else if (c == '@' || c == '`') || c == '%' || (c == '|' || c == '>') {
-        PlacedSort::NoSign
-    } else {
-        PlacedSort::PlainSign
+    match c {
+        '[' => PlacedSort::OpenSign(Bracket::Square),
+        '{' => PlacedSort::OpenSign(Bracket::Curly),
+        ']' => PlacedSort::CloseSign(Bracket::Square),
+        '}' => PlacedSort::CloseSign(Bracket::Curly),
+        ',' => PlacedSort::CommaSign,
+        '-' if is_blank_or_breakz(next) => PlacedSort::DashSign,
+        '?' if is_blank_or_breakz(next) => PlacedSort::QuestionSign,
+        ':' if is_blank_or_breakz(next) || in_flow && (is_flow(next) || adjacent) => {
+            PlacedSort::ColonSign
+        }
+        '*' => PlacedSort::AliasSign,
+        '&' => PlacedSort::AnchorSign,
+        '!' => PlacedSort::TagSign,
+        '|' | '>' if !in_flow => PlacedSort::BlockSign(c == '|'),
+        '\'' | '"' => PlacedSort::QuoteSign(c == '\''),
+        '@' | '`' | '%' | '|' | '>' => PlacedSort::NoSign,
+        _ if is_bom(c) => PlacedSort::StrayMark,
+        _ => PlacedSort::PlainSign,
     }
 }

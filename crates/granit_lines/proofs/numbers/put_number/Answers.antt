@@ -1,21 +1,10 @@
-use Rattle.std.proofs.Common.{◌≡◌, ◌+◌, ◌-◌, ◌/◌, ◌%◌, ℕ, List, [], ◌∷◌, ◌++◌, take, sym, ap, ◌∙◌, append_assoc, arith}
-use Rattle.granit_lines.proofs.NumberLemmas.{decimal_near}
-use Rattle.granit_lines.proofs.RoomLemmas.{piece_front}
+use Rattle.std.proofs.Common.{◌≡◌, ◌+◌, ◌-◌, ◌%◌, ℕ, ◌++◌, take, ap, ◌∙◌, arith, decimal}
 use Rattle.granit_lines.proofs.numbers.put_number.Goals as goal
 
 pub returns-clause-put : goal.returns-clause-put
 returns-clause-put c =
     let leading = c.args.leading.now in
-    let room = c.args.room.now in
-    let at = c.args.at in
     let pair = (c.args.n + (18446744073709551616 - leading.base)) % 18446744073709551616 in
-    let last = (48 + pair / 10) ∷ (48 + pair % 10) ∷ [] in
-    let parts : c.args.n ≡ leading.base + pair = omega (arith, leading.near, leading.large, c.if-pair-ge100.false) in
-    let near = decimal_near c.args.n leading.base pair leading.count leading.digits c.if-n-lt100.false (omega arith)
-    leading.even parts c.if-pair-ge100.false leading.told in
-    c.put_pair.ensures.put
-    ∙ ap (λ (xs : List ℕ). xs ++ last)
-    (piece_front c.put_eight.new.room room leading.digits at (at + 8) leading.count (omega (arith, c.requires.room))
-    (omega (arith, leading.few)) c.put_eight.ensures.put)
-    ∙ append_assoc (take at room) (take leading.count leading.digits) last
-    ∙ ap (λ (xs : List ℕ). take at room ++ xs) (sym near)
+    let parts : leading.base + pair ≡ c.args.n = omega (arith, leading.near, leading.large, c.if-pair-ge100.false) in
+    c.put_near.ensures.put
+    ∙ ap (λ (n : ℕ). take c.args.at c.args.room.now ++ decimal n) parts

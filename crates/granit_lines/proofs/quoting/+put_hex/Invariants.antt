@@ -1,4 +1,4 @@
 use Rattle.granit_lines.proofs.quoting.+put_hex.Given as goal
 
 abbrev pub decreases-put_hex : goal.decreases-put_hex
-decreases-put_hex l = l.end
+decreases-put_hex l = l.n

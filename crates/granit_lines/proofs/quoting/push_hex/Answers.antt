@@ -1,8 +1,8 @@
-use Rattle.std.proofs.Common.{◌∙◌, arith, refl, replicate}
-use Rattle.granit_lines.proofs.HexLemmas.{eight_digits}
+use Rattle.std.proofs.Common.{arith}
+use Rattle.granit_lines.proofs.HexLemmas.{few_digits}
 use Rattle.granit_lines.proofs.quoting.push_hex.Goals as goal
 
-pub returns : goal.returns
-returns c =
-    rw (c.put_hex-start.ensures.put ∙ eight_digits c.args.n (replicate 8 0) (omega arith) refl)
-    at c.push_behind.ensures
+pub put_hex-end-requires : goal.put_hex-end-requires
+put_hex-end-requires c =
+    let few = few_digits 8 c.args.n (omega arith) (omega arith) (omega arith) in
+    record { room = omega (arith, few) }

@@ -7,5 +7,5 @@ use Rattle.granit_queue.proofs.queue.Queue.pop.Goals as goal
 
 pub invariant_of-self : goal.invariant_of-self
 invariant_of-self c =
-    subst (λ (qs : List Queued). NumbersRise c.self.inside.numbers (queue_view qs)) (sym c.pop_front.ensures.rest)
-    (without_first c.self.inside.numbers c.self.inside.items.items c.self.invariant)
+    subst (λ (qs : List Queued). NumbersRise c.self.inside.numbers (queue_view qs)) (sym c.pop.ensures.rest)
+    (without_first c.self.inside.numbers c.self.inside.items c.self.invariant)

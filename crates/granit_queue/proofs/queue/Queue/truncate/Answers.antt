@@ -7,5 +7,5 @@ use Rattle.granit_queue.proofs.queue.Queue.truncate.Goals as goal
 
 pub invariant_of-self : goal.invariant_of-self
 invariant_of-self c =
-    subst (λ (qs : List Queued). NumbersRise c.self.inside.numbers (queue_view qs)) (sym c.truncate.ensures.items)
-    (cut c.self.inside.numbers c.args.count c.self.inside.items.items c.self.invariant)
+    subst (λ (qs : List Queued). NumbersRise c.self.inside.numbers (queue_view qs)) (sym c.truncate.ensures)
+    (cut c.self.inside.numbers c.args.count c.self.inside.items c.self.invariant)

@@ -4,7 +4,7 @@ use Rattle.granit_items.specs.ItemViews.{item_view}
 use Rattle.granit_queue.specs.QueueViews.{is_numbered, queue_view, queued_view}
 use Rattle.granit_queue.specs.declared.queue.Queued.{Queued}
 use Rattle.granit_queue.proofs.RisingLemmas.{Passed, passes, passes_item, passed_all, passed_enough}
-use Rattle.granit_queue.proofs.queue.mark_newest.Goals as goal
+use Rattle.granit_queue.proofs.items.mark_newest.Goals as goal
 
 pub items-init : goal.items-init
 items-init c = record {

@@ -1,6 +1,6 @@
 use Rattle.std.proofs.Common.{◌≡◌, ◌++◌, length, map, take, drop}
 use Rattle.granit_queue.specs.QueueViews.{flags_of, queue_view}
-use Rattle.granit_queue.proofs.queue.mark_all.Given as goal
+use Rattle.granit_queue.proofs.items.mark_all.Given as goal
 
 abbrev pub invariant-items : goal.invariant-items
 invariant-items l = record {

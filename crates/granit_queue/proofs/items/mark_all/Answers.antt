@@ -4,7 +4,7 @@ use Rattle.granit_items.specs.ItemViews.{item_view}
 use Rattle.granit_queue.specs.QueueViews.{is_numbered}
 use Rattle.granit_queue.specs.declared.queue.Queued.{Queued}
 use Rattle.granit_queue.proofs.QueueLemmas.{flag_set, flagged_all}
-use Rattle.granit_queue.proofs.queue.mark_all.Goals as goal
+use Rattle.granit_queue.proofs.items.mark_all.Goals as goal
 
 pub items-preserved : goal.items-preserved
 items-preserved c =

@@ -1,7 +1,7 @@
 use Rattle.std.proofs.Common.{◌≤◌, length}
 use Rattle.granit_queue.specs.QueueViews.{queue_view}
 use Rattle.granit_queue.proofs.RisingLemmas.{Passed}
-use Rattle.granit_queue.proofs.queue.mark_newest.Given as goal
+use Rattle.granit_queue.proofs.items.mark_newest.Given as goal
 
 abbrev pub invariant-items : goal.invariant-items
 invariant-items l = record {
