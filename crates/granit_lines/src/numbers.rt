@@ -45,14 +45,13 @@ impl LeadingDigits {
         ensures { result.base ≡ n - n % 100 }
     {
         let last = self.count - 1;
-        let ahead = n.wrapping_sub(self.base);
-        if ahead < 100 || 200 <= ahead || self.digits[last] == b'9' {
+        if n / 100 != self.base / 100 + 1 || self.digits[last] == b'9' {
             return LeadingDigits::of(n);
         }
         let mut digits = self.digits;
         digits[last] += 1;
         LeadingDigits {
-            base: self.base + 100,
+            base: n - n % 100,
             digits,
             count: self.count,
         }
@@ -79,7 +78,7 @@ impl LeadingDigits {
 
 /// Eight digits behind so many bytes. Stores one by one become one, where a copy asks first whether the two overlap.
 #[inline(always)]
-pub fn put_eight(room: &mut [u8], at: usize, digits: [u8; 8])
+fn put_eight(room: &mut [u8], at: usize, digits: [u8; 8])
     requires room { at + 8 ≤ length room.old }
     ensures put { take (at + 8) room.new ≡ take at room.old ++ digits }
 {
@@ -156,7 +155,7 @@ fn put_far(leading: &mut LeadingDigits, room: &mut [u8], at: usize, n: usize) ->
         return put_any(room, at, n);
     }
     *leading = leading.behind(n);
-    put_near(leading, room, at, n - leading.base)
+    put_near(leading, room, at, n % 100)
 }
 
 /// A number behind so many bytes; where it ends.

@@ -16,7 +16,7 @@ use std::marker::Model;
 const LINE: usize = 768;
 
 /// What room grows by.
-const MORE: usize = 1920;
+const MORE: usize = 1024;
 
 /// Lines of events, one behind the other.
 #[derive(Drop)]
