@@ -45,6 +45,21 @@ plain_more bs n within plain more =
     subst (All (λ b. is_plain b ≡ true)) (sym (take_more bs n 0 within))
     (All-push (λ b. is_plain b ≡ true) (take n bs) (get_or bs n 0) plain more)
 
+-- four more
+pub plain_four : (bs : List ℕ) (n : ℕ) → n + 4 ≤ length bs → All (λ b. is_plain b ≡ true) (take n bs)
+    → is_plain (get_or bs n 0) ≡ true → is_plain (get_or bs (n + 1) 0) ≡ true → is_plain (get_or bs (n + 2) 0) ≡ true
+    → is_plain (get_or bs (n + 3) 0) ≡ true → All (λ b. is_plain b ≡ true) (take (n + 4) bs)
+plain_four bs n within plain a b c d =
+    let third : is_plain (get_or bs (n + 1 + 1) 0) ≡ true =
+    subst (λ (k : ℕ). is_plain (get_or bs k 0) ≡ true) (omega arith) c in
+    let fourth : is_plain (get_or bs (n + 1 + 1 + 1) 0) ≡ true =
+    subst (λ (k : ℕ). is_plain (get_or bs k 0) ≡ true) (omega arith) d in
+    let whole : n + 1 + 1 + 1 + 1 ≡ n + 4 = omega arith in
+    subst (λ (k : ℕ). All (λ b. is_plain b ≡ true) (take k bs)) whole
+    (plain_more bs (n + 1 + 1 + 1) (omega (arith, within))
+    (plain_more bs (n + 1 + 1) (omega (arith, within))
+    (plain_more bs (n + 1) (omega (arith, within)) (plain_more bs n (omega (arith, within)) plain a) b) third) fourth)
+
 small : (b : ℕ) → is_plain b ≡ true → b < 128
 small b p = grind (arith, nat_tests, p)
 

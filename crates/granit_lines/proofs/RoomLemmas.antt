@@ -16,6 +16,33 @@ byte_more room old bytes at count some left put =
     ∙ append_assoc (take at old) (take count bytes) (get_or bytes count 0 ∷ [])
     ∙ ap (λ (xs : List ℕ). take at old ++ xs) (sym (take_more bytes count 0 some))
 
+-- the same by its place, and by how many they are then
+byte_at : (room old bytes : List ℕ) (at count next place : ℕ) → place ≡ at + count → next ≡ count + 1
+    → count < length bytes → place < length room → take (at + count) room ≡ take at old ++ take count bytes
+    → take (at + next) (set room place (get_or bytes count 0)) ≡ take at old ++ take next bytes
+byte_at room old bytes at count next place there more some left put =
+    rw (there, more) (byte_more room old bytes at count some (omega (arith, there, left)) put)
+
+-- four more
+pub four_more : (room old bytes : List ℕ) (at count : ℕ) → count + 4 ≤ length bytes → at + (count + 4) ≤ length room
+    → take (at + count) room ≡ take at old ++ take count bytes
+    → take (at + (count + 4)) (set (set (set (set room (at + count) (get_or bytes count 0)) (at + count + 1)
+    (get_or bytes (count + 1) 0)) (at + count + 2) (get_or bytes (count + 2) 0)) (at + count + 3)
+    (get_or bytes (count + 3) 0)) ≡ take at old ++ take (count + 4) bytes
+four_more room old bytes at count some left put =
+    let one = set room (at + count) (get_or bytes count 0) in
+    let two = set one (at + count + 1) (get_or bytes (count + 1) 0) in
+    let three = set two (at + count + 2) (get_or bytes (count + 2) 0) in
+    let at_one : length one ≡ length room = length-set room _ _ in
+    let at_two : length two ≡ length room = length-set one _ _ ∙ at_one in
+    let at_three : length three ≡ length room = length-set two _ _ ∙ at_two in
+    byte_at three old bytes at (count + 3) (count + 4) (at + count + 3) (omega arith) (omega arith)
+    (omega (arith, some)) (omega (arith, left, at_three))
+    (byte_at two old bytes at (count + 2) (count + 3) (at + count + 2) (omega arith) (omega arith)
+    (omega (arith, some)) (omega (arith, left, at_two))
+    (byte_at one old bytes at (count + 1) (count + 2) (at + count + 1) (omega arith) (omega arith) (omega (arith, some))
+    (omega (arith, left, at_one)) (byte_more room old bytes at count (omega (arith, some)) (omega (arith, left)) put)))
+
 -- two bytes
 pub pair_put : (room : List ℕ) (at first second : ℕ) → at + 2 ≤ length room
     → take (at + 2) (set (set room at first) (at + 1) second) ≡ take at room ++ first ∷ second ∷ []

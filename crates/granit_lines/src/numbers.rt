@@ -45,13 +45,14 @@ impl LeadingDigits {
         ensures { result.base ≡ n - n % 100 }
     {
         let last = self.count - 1;
-        if n / 100 != self.base / 100 + 1 || self.digits[last] == b'9' {
+        let ahead = n.wrapping_sub(self.base);
+        if ahead < 100 || 200 <= ahead || self.digits[last] == b'9' {
             return LeadingDigits::of(n);
         }
         let mut digits = self.digits;
         digits[last] += 1;
         LeadingDigits {
-            base: n - n % 100,
+            base: self.base + 100,
             digits,
             count: self.count,
         }
@@ -78,7 +79,7 @@ impl LeadingDigits {
 
 /// Eight digits behind so many bytes. Stores one by one become one, where a copy asks first whether the two overlap.
 #[inline(always)]
-fn put_eight(room: &mut [u8], at: usize, digits: [u8; 8])
+pub fn put_eight(room: &mut [u8], at: usize, digits: [u8; 8])
     requires room { at + 8 ≤ length room.old }
     ensures put { take (at + 8) room.new ≡ take at room.old ++ digits }
 {
@@ -155,7 +156,7 @@ fn put_far(leading: &mut LeadingDigits, room: &mut [u8], at: usize, n: usize) ->
         return put_any(room, at, n);
     }
     *leading = leading.behind(n);
-    put_near(leading, room, at, n % 100)
+    put_near(leading, room, at, n - leading.base)
 }
 
 /// A number behind so many bytes; where it ends.

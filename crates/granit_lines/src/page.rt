@@ -15,8 +15,8 @@ use std::marker::Model;
 /// What a usual line takes at most: an event of 641 bytes and a span of 127.
 const LINE: usize = 768;
 
-/// What room grows by.
-const MORE: usize = 1024;
+/// What room grows by: doubled over and over, it ends just below 4,000,000,000 bytes.
+const MORE: usize = 1800;
 
 /// Lines of events, one behind the other.
 #[derive(Drop)]

@@ -52,7 +52,7 @@ fn put_escaped(room: &mut [u8], at: usize, text: &str) -> usize
 }
 
 /// A character between quotes, behind so many bytes; where it ends.
-#[inline(never)]
+#[inline(always)]
 #[tactic(auto, unfolding(granit_lexemes::specs::Line::quoted_char))]
 fn put_quoted_char(room: &mut [u8], at: usize, c: char) -> usize
     requires room { at + 6 * length (encode_utf8 c) ≤ length room.old }

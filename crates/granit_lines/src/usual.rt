@@ -4,6 +4,7 @@ ghost use Rattle.granit_lexemes.specs.Line as line;
 ghost use Rattle.granit_lexemes.specs.PlainEvent as plain;
 ghost use Rattle.granit_event.specs.Events.{event_kind};
 
+use crate::numbers::put_eight;
 use crate::quoted::put_quoted;
 use crate::room::{put_byte, put_word};
 use granit_base::{ScalarStyle, StructureStyle, Text};
@@ -11,6 +12,19 @@ use granit_event::{Event, Tag};
 
 /// A usual text is no longer.
 const SHORT: usize = 100;
+
+/// A word of two parts, the second one behind so many bytes of the first; where it ends.
+#[inline(always)]
+fn put_parts(room: &mut [u8], at: usize, front: [u8; 8], back: [u8; 8], from: usize) -> usize
+    requires room { at + 16 ≤ length room.old }
+    requires from { from ≤ 8 }
+    ensures end { result ≡ at + from + 8 }
+    ensures put { take result room.new ≡ take at room.old ++ (take from front ++ back) }
+{
+    put_eight(room, at, front);
+    put_eight(room, at + from, back);
+    at + from + 8
+}
 
 /// What stands in front of a scalar's text, its quote too; where it ends.
 #[inline(always)]
@@ -21,11 +35,11 @@ fn put_scalar_words(room: &mut [u8], at: usize, style: ScalarStyle) -> usize
         ≡ take at room.old ++ (((codes "Scalar " ++ line.style_word style) ++ codes " ") ++ codes "\"") }
 {
     match style {
-        ScalarStyle::Plain => put_word(room, at, "Scalar plain \""),
-        ScalarStyle::SingleQuoted => put_word(room, at, "Scalar single \""),
-        ScalarStyle::DoubleQuoted => put_word(room, at, "Scalar double \""),
-        ScalarStyle::Literal => put_word(room, at, "Scalar literal \""),
-        ScalarStyle::Folded => put_word(room, at, "Scalar folded \""),
+        ScalarStyle::Plain => put_parts(room, at, *b"Scalar p", *b" plain \"", 6),
+        ScalarStyle::SingleQuoted => put_parts(room, at, *b"Scalar s", *b"single \"", 7),
+        ScalarStyle::DoubleQuoted => put_parts(room, at, *b"Scalar d", *b"double \"", 7),
+        ScalarStyle::Literal => put_parts(room, at, *b"Scalar l", *b"iteral \"", 8),
+        ScalarStyle::Folded => put_parts(room, at, *b"Scalar f", *b"folded \"", 7),
     }
 }
 

@@ -22,5 +22,5 @@ invariant_of-result-clause-told c =
     let near : s.base / 100 < 100000000 = omega (arith, s.near) in
     let last = last_digit (s.base / 100) s.count s.digits near (omega (arith, s.few)) s.told in
     let less : s.base / 100 % 10 < 9 = omega (arith, last, c.if-self-last-eq57.false) in
-    let next : s.base / 100 + 1 ≡ (c.args.n - c.args.n % 100) / 100 = omega (arith, c.if-n-self.false) in
+    let next : s.base / 100 + 1 ≡ (s.base + 100) / 100 = omega arith in
     last_raised (s.base / 100) s.count s.digits near (omega (arith, s.few)) s.told less ∙ ap decimal next
