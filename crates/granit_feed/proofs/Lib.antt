@@ -1,4 +1,7 @@
 pub mod AtOnceLemmas
+mod BlockGiving
+mod FlowGiving
 pub mod GivingLemmas
 pub mod HandleLemmas
 pub mod TailLemmas
+mod TokenGiving

@@ -1,3 +1,4 @@
 pub mod AtOnce
+pub mod Eventless
 pub mod Handles
 pub mod Tails

@@ -1,11 +1,14 @@
 //! A lexeme in a block collection (YAML 1.2.2, 8.2).
-ghost use Rattle.std.specs.Prelude.{◌≡◌, true, None, OnOk};
+ghost use Rattle.std.specs.Prelude.{◌≡◌, ◌<◌, true, false, length, None, OnOk};
 ghost use Rattle.granit_error.specs.OptionsView.{options_of};
 ghost use Rattle.granit_error.specs.FaultKind as faults;
 ghost use Rattle.granit_refused.specs.Answered.{answered, why};
 ghost use Rattle.granit_lexemes.specs.Outcome.{fault_at};
 ghost use Rattle.granit_sorts.specs.SortViews.{machine_token, sort_view};
 ghost use Rattle.granit_frames.specs.Refusing.{RefusesByFault};
+ghost use Rattle.granit_frames.specs.StateViews.{has_properties};
+ghost use Rattle.granit_frames.specs.Wanting.{keeps_text, StepWantsToGive, WantsToGive};
+ghost use Rattle.granit_items.specs.ItemViews.{kind_view};
 ghost use Rattle.granit_nesting.specs.FrameViews.{pair_view};
 ghost use Rattle.granit_machine.specs.BlockSteps as steps;
 ghost use Rattle.granit_machine.specs.Frames as machine;
@@ -52,6 +55,11 @@ pub(crate) fn in_sequence<'input>(
         → RefusesByFault (answered fault.new result) (steps.in_sequence (options_of options.now)
         (machine_token token.old) column indentless state.old) }
     ensures kept { state.new.kept ≡ state.old.kept }
+    ensures eventless { keeps_text (kind_view token.old.lexeme.value.kind) ≡ false
+        → has_properties state.old.frames ≡ false → 0 < length state.old.frames
+        → StepWantsToGive (answered fault.new result) state.old
+        (steps.in_sequence (options_of options.now)
+        (machine_token token.old) column indentless state.old) }
 {
     if token.sort.is_dash() && token.is_in_column(column) {
         state.give_empty()?;
@@ -75,6 +83,8 @@ fn mapping_at<'input>(
 ) -> Result<(), NoMemory>
     ensures leaves { OnOk result (state.new ≡ steps.mapping_at column (pair_view stage) state.old) }
     ensures kept { state.new.kept ≡ state.old.kept }
+    ensures eventless { has_properties state.old.frames ≡ false → 0 < length state.old.frames
+        → WantsToGive result state.old (steps.mapping_at column (pair_view stage) state.old) }
 {
     state.flush()?;
     state.with_top(Frame::BlockMapping(column, stage))
@@ -91,6 +101,9 @@ fn mapping_colon<'input>(
     ensures leaves { OnOk result (state.new ≡ steps.mapping_colon (options_of options.now)
         (machine_token token.now) column state.old) }
     ensures kept { state.new.kept ≡ state.old.kept }
+    ensures eventless { has_properties state.old.frames ≡ false → 0 < length state.old.frames
+        → WantsToGive result state.old (steps.mapping_colon (options_of options.now)
+        (machine_token token.now) column state.old) }
 {
     mapping_at(state, column, PairStage::AtValue)?;
     state.waits(
@@ -112,6 +125,9 @@ fn bare_colon_in_mapping<'input>(
     ensures leaves { OnOk result (state.new ≡ steps.bare_colon_in_mapping (options_of options.now)
         (machine_token token.now) column (pair_view stage) state.old) }
     ensures kept { state.new.kept ≡ state.old.kept }
+    ensures eventless { has_properties state.old.frames ≡ false → 0 < length state.old.frames
+        → WantsToGive result state.old (steps.bare_colon_in_mapping (options_of options.now)
+        (machine_token token.now) column (pair_view stage) state.old) }
 {
     let start = token.lexeme.start;
     match stage {
@@ -154,6 +170,10 @@ fn pair_colon<'input>(
     ensures leaves { LeavesIfRoom (answered fault.new result) state.new (steps.next_pair (options_of options.now)
         (machine_token token.now) column (pair_view stage) sorts.BareColon state.old) }
     ensures kept { state.new.kept ≡ state.old.kept }
+    ensures eventless { has_properties state.old.frames ≡ false → 0 < length state.old.frames
+        → StepWantsToGive (answered fault.new result) state.old
+        (steps.next_pair (options_of options.now)
+        (machine_token token.now) column (pair_view stage) sorts.BareColon state.old) }
 {
     bare_colon_in_mapping(state, alloc, options, token, column, stage)?;
     Ok(())
@@ -175,6 +195,11 @@ fn next_pair<'input>(
         → RefusesByFault (answered fault.new result) (steps.next_pair (options_of options.now)
         (machine_token token.old) column (pair_view stage) (sort_view token.old.sort) state.old) }
     ensures kept { state.new.kept ≡ state.old.kept }
+    ensures eventless { keeps_text (kind_view token.old.lexeme.value.kind) ≡ false
+        → has_properties state.old.frames ≡ false → 0 < length state.old.frames
+        → StepWantsToGive (answered fault.new result) state.old
+        (steps.next_pair (options_of options.now)
+        (machine_token token.old) column (pair_view stage) (sort_view token.old.sort) state.old) }
 {
     match token.sort {
         TokenSort::BeginsKey => {
@@ -207,6 +232,11 @@ fn behind_indicator<'input>(
         → RefusesByFault (answered fault.new result) (steps.behind_indicator (options_of options.now)
         (machine_token token.old) column (pair_view stage) state.old) }
     ensures kept { state.new.kept ≡ state.old.kept }
+    ensures eventless { keeps_text (kind_view token.old.lexeme.value.kind) ≡ false
+        → has_properties state.old.frames ≡ false → 0 < length state.old.frames
+        → StepWantsToGive (answered fault.new result) state.old
+        (steps.behind_indicator (options_of options.now)
+        (machine_token token.old) column (pair_view stage) state.old) }
 {
     if token.sort.begins_pair() && token.is_in_column(column) {
         return next_pair(state, fault, alloc, options, token, column, stage);
@@ -234,6 +264,11 @@ fn at_block_key<'input>(
     ensures by_fault { RefusesByFault (answered fault.new result) (steps.at_block_key (options_of options.now)
         (machine_token token.old) (sort_view token.old.sort) state.old) }
     ensures kept { state.new.kept ≡ state.old.kept }
+    ensures eventless { keeps_text (kind_view token.old.lexeme.value.kind) ≡ false
+        → has_properties state.old.frames ≡ false → 0 < length state.old.frames
+        → StepWantsToGive (answered fault.new result) state.old
+        (steps.at_block_key (options_of options.now)
+        (machine_token token.old) (sort_view token.old.sort) state.old) }
 {
     match token.sort {
         TokenSort::BeginsNode => bare(state, fault, alloc, options, token),
@@ -254,6 +289,10 @@ fn behind_block_key<'input>(
     ensures by_fault { RefusesByFault (answered fault.new result) (steps.behind_block_key (options_of options.now)
         (machine_token token.now) column (sort_view token.now.sort) state.old) }
     ensures kept { state.new.kept ≡ state.old.kept }
+    ensures eventless { has_properties state.old.frames ≡ false → 0 < length state.old.frames
+        → StepWantsToGive (answered fault.new result) state.old
+        (steps.behind_block_key (options_of options.now)
+        (machine_token token.now) column (sort_view token.now.sort) state.old) }
 {
     match token.sort {
         TokenSort::KeyedColon => Ok(mapping_colon(state, alloc, options, token, column)?),
@@ -276,6 +315,11 @@ pub(crate) fn in_mapping<'input>(
         → RefusesByFault (answered fault.new result) (steps.in_mapping (options_of options.now)
         (machine_token token.old) column (pair_view stage) state.old) }
     ensures kept { state.new.kept ≡ state.old.kept }
+    ensures eventless { keeps_text (kind_view token.old.lexeme.value.kind) ≡ false
+        → has_properties state.old.frames ≡ false → 0 < length state.old.frames
+        → StepWantsToGive (answered fault.new result) state.old
+        (steps.in_mapping (options_of options.now)
+        (machine_token token.old) column (pair_view stage) state.old) }
 {
     match stage {
         PairStage::AtKey => at_block_key(state, fault, alloc, options, token),

@@ -6,10 +6,12 @@ ghost use Rattle.granit_lexemes.specs.Lexeme.{is_directive};
 ghost use Rattle.granit_refused.specs.Answered.{answered};
 ghost use Rattle.granit_sorts.specs.SortViews.{machine_token, sort_view};
 ghost use Rattle.granit_feed.specs.AtOnce.{outside_at_once, ItemAtOnce, TokenAtOnce};
+ghost use Rattle.granit_feed.specs.Eventless.{ItemTakesToGive, TokenTakesToGive};
 ghost use Rattle.granit_feed.specs.Handles.{holds_directive, KeepsIfRefused};
 ghost use Rattle.granit_feed.specs.Tails as tails;
 ghost use Rattle.granit_frames.specs.Outside.{NoneWaitsOutside};
 ghost use Rattle.granit_frames.specs.Refusing.{RefusesByFault};
+ghost use Rattle.granit_frames.specs.Wanting.{keeps_text, StepWantsToGive};
 ghost use Rattle.granit_items.specs.ItemViews.{boxed_view, item_view, kind_view};
 ghost use Rattle.granit_machine.specs.Leaving.{LeavesIfRoom};
 ghost use Rattle.granit_machine.specs.Parser as spec;
@@ -46,6 +48,9 @@ fn take_token<'input>(
     ensures kept { is_directive (kind_view token.old.lexeme.value.kind) ≡ false → state.new.kept ≡ state.old.kept }
     ensures refused { KeepsIfRefused (answered fault.new result) state.old state.new }
     ensures inside { (state.old.frames ≡ [] → ⊥) → state.new.kept ≡ state.old.kept }
+    ensures eventless { keeps_text (kind_view token.old.lexeme.value.kind) ≡ false
+        → StepWantsToGive (answered fault.new result) state.old
+        (spec.take_token (options_of options.now) (machine_token token.old) state.old) }
 {
     match state.top() {
         Top::Outside => outside(state, fault, alloc, options, token),
@@ -155,6 +160,9 @@ fn take_lexeme<'input>(
         (machine_token token.old) next_line state.old) }
     ensures kept { is_directive (kind_view token.old.lexeme.value.kind) ≡ false → state.new.kept ≡ state.old.kept }
     ensures refused { NoneWaitsOutside state.old → KeepsIfRefused (answered fault.new result) state.old state.new }
+    ensures eventless { TokenTakesToGive (machine_token token.old) state.old
+        → StepWantsToGive (answered fault.new result) state.old
+        (spec.take_lexeme (options_of options.now) (machine_token token.old) next_line state.old) }
 {
     if takes_tail(&token.lexeme) {
         return take_tailed(state, fault, alloc, options, token, next_line);
@@ -187,6 +195,9 @@ pub fn feed<'input>(
         (item_view item.entry) begins_key next_line state.old) }
     ensures kept { holds_directive (item_view item.entry) ≡ false → state.new.kept ≡ state.old.kept }
     ensures refused { NoneWaitsOutside state.old → KeepsIfRefused (answered fault.new result) state.old state.new }
+    ensures eventless { ItemTakesToGive (item_view item.entry) begins_key state.old
+        → StepWantsToGive (answered fault.new result) state.old
+        (spec.take_item (options_of options.now) (item_view item.entry) begins_key next_line state.old) }
 {
     match item {
         Item::Note(note) => state.take_comment(fault, Box::into_inner(note), next_line),

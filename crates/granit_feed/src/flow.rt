@@ -1,5 +1,5 @@
 //! A lexeme in a flow collection (YAML 1.2.2, 7.4).
-ghost use Rattle.std.specs.Prelude.{◌≡◌, false, OnOk};
+ghost use Rattle.std.specs.Prelude.{◌≡◌, ◌<◌, false, length, OnOk};
 ghost use Rattle.granit_error.specs.OptionsView.{options_of};
 ghost use Rattle.granit_error.specs.FaultKind as faults;
 ghost use Rattle.granit_refused.specs.Answered.{answered, why};
@@ -7,6 +7,8 @@ ghost use Rattle.granit_lexemes.specs.Outcome.{fault_at};
 ghost use Rattle.granit_sorts.specs.SortViews.{machine_token, sort_view};
 ghost use Rattle.granit_frames.specs.Refusing.{RefusesByFault};
 ghost use Rattle.granit_frames.specs.StateViews.{has_properties};
+ghost use Rattle.granit_frames.specs.Wanting.{keeps_text, StepWantsToGive, WantsToGive};
+ghost use Rattle.granit_items.specs.ItemViews.{kind_view};
 ghost use Rattle.granit_nesting.specs.FrameViews.{frame_view, pair_view};
 ghost use Rattle.granit_machine.specs.FlowSteps as steps;
 ghost use Rattle.granit_machine.specs.Frames as machine;
@@ -69,6 +71,8 @@ fn flow_at<'input>(
 ) -> Result<(), NoMemory>
     ensures leaves { OnOk result (state.new ≡ steps.flow_at single (pair_view stage) state.old) }
     ensures kept { state.new.kept ≡ state.old.kept }
+    ensures eventless { has_properties state.old.frames ≡ false → 0 < length state.old.frames
+        → WantsToGive result state.old (steps.flow_at single (pair_view stage) state.old) }
 {
     state.flush()?;
     state.with_top(Frame::FlowMapping(single, stage))
@@ -86,6 +90,9 @@ fn flow_colon<'input>(
     ensures leaves { OnOk result (state.new ≡ steps.flow_colon (options_of options.now)
         (machine_token token.now) single state.old) }
     ensures kept { state.new.kept ≡ state.old.kept }
+    ensures eventless { has_properties state.old.frames ≡ false → 0 < length state.old.frames
+        → WantsToGive result state.old (steps.flow_colon (options_of options.now)
+        (machine_token token.now) single state.old) }
 {
     flow_at(state, single, PairStage::AtValue)?;
     state.waits(
@@ -188,6 +195,9 @@ fn behind_flow_entry<'input>(
     ensures by_fault { RefusesByFault (answered fault.new result) (steps.behind_entry_of (machine_token token.now)
         (sort_view token.now.sort) state.old) }
     ensures kept { state.new.kept ≡ state.old.kept }
+    ensures eventless { has_properties state.old.frames ≡ false → 0 < length state.old.frames
+        → StepWantsToGive (answered fault.new result) state.old (steps.behind_entry_of
+        (machine_token token.now) (sort_view token.now.sort) state.old) }
 {
     match token.sort {
         TokenSort::SequenceCloser => Ok(close_flow(state, token)?),
@@ -211,6 +221,9 @@ pub(crate) fn in_flow_sequence<'input>(
         → RefusesByFault (answered fault.new result) (steps.in_flow_sequence (options_of options.now)
         (machine_token token.old) behind_entry state.old) }
     ensures kept { state.new.kept ≡ state.old.kept }
+    ensures eventless { keeps_text (kind_view token.old.lexeme.value.kind) ≡ false
+        → 0 < length state.old.frames → StepWantsToGive (answered fault.new result) state.old (steps.in_flow_sequence
+        (options_of options.now) (machine_token token.old) behind_entry state.old) }
 {
     if behind_entry {
         behind_flow_entry(state, fault, token)
@@ -231,6 +244,9 @@ fn behind_comma<'input>(
     ensures leaves { OnOk result (state.new ≡ steps.flow_at single machine.BeforePair
         (ends.owed token.now.lexeme.value.start state.old)) }
     ensures kept { state.new.kept ≡ state.old.kept }
+    ensures eventless { has_properties state.old.frames ≡ false → 0 < length state.old.frames
+        → WantsToGive result state.old (steps.flow_at single machine.BeforePair
+        (ends.owed token.now.lexeme.value.start state.old)) }
 {
     state.owed(token.lexeme.start)?;
     flow_at(state, single, PairStage::BeforePair)
@@ -253,6 +269,11 @@ fn before_pair<'input>(
         (steps.in_flow_mapping_by (options_of options.now)
         (machine_token token.old) single machine.BeforePair (sort_view token.old.sort) state.old) }
     ensures kept { state.new.kept ≡ state.old.kept }
+    ensures eventless { keeps_text (kind_view token.old.lexeme.value.kind) ≡ false
+        → has_properties state.old.frames ≡ false → 0 < length state.old.frames
+        → StepWantsToGive (answered fault.new result) state.old (steps.in_flow_mapping_by
+        (options_of options.now) (machine_token token.old) single machine.BeforePair (sort_view token.old.sort)
+        state.old) }
 {
     match token.sort {
         TokenSort::MappingCloser => Ok(close_flow(state, token)?),
@@ -306,6 +327,10 @@ fn behind_flow_key<'input>(
         (steps.in_flow_mapping_by (options_of options.now)
         (machine_token token.now) single machine.BehindKey (sort_view token.now.sort) state.old) }
     ensures kept { state.new.kept ≡ state.old.kept }
+    ensures eventless { has_properties state.old.frames ≡ false → 0 < length state.old.frames
+        → StepWantsToGive (answered fault.new result) state.old (steps.in_flow_mapping_by
+        (options_of options.now) (machine_token token.now) single machine.BehindKey (sort_view token.now.sort)
+        state.old) }
 {
     match token.sort {
         TokenSort::KeyedColon => Ok(flow_colon(state, alloc, options, token, single)?),
@@ -329,6 +354,11 @@ fn at_flow_question<'input>(
         (steps.in_flow_mapping_by (options_of options.now)
         (machine_token token.old) single machine.AtQuestion (sort_view token.old.sort) state.old) }
     ensures kept { state.new.kept ≡ state.old.kept }
+    ensures eventless { keeps_text (kind_view token.old.lexeme.value.kind) ≡ false
+        → has_properties state.old.frames ≡ false → 0 < length state.old.frames
+        → StepWantsToGive (answered fault.new result) state.old (steps.in_flow_mapping_by
+        (options_of options.now) (machine_token token.old) single machine.AtQuestion (sort_view token.old.sort)
+        state.old) }
 {
     match token.sort {
         TokenSort::MappingCloser => Ok(close_flow(state, token)?),
@@ -355,6 +385,10 @@ fn behind_flow_question<'input>(
         (steps.in_flow_mapping_by (options_of options.now)
         (machine_token token.now) single machine.BehindQuestion (sort_view token.now.sort) state.old) }
     ensures kept { state.new.kept ≡ state.old.kept }
+    ensures eventless { has_properties state.old.frames ≡ false → 0 < length state.old.frames
+        → StepWantsToGive (answered fault.new result) state.old (steps.in_flow_mapping_by
+        (options_of options.now) (machine_token token.now) single machine.BehindQuestion (sort_view token.now.sort)
+        state.old) }
 {
     match token.sort {
         TokenSort::MappingCloser => Ok(close_flow(state, token)?),
@@ -380,6 +414,11 @@ fn at_flow_value<'input>(
         (steps.in_flow_mapping_by (options_of options.now)
         (machine_token token.old) single machine.AtValue (sort_view token.old.sort) state.old) }
     ensures kept { state.new.kept ≡ state.old.kept }
+    ensures eventless { keeps_text (kind_view token.old.lexeme.value.kind) ≡ false
+        → has_properties state.old.frames ≡ false → 0 < length state.old.frames
+        → StepWantsToGive (answered fault.new result) state.old (steps.in_flow_mapping_by
+        (options_of options.now) (machine_token token.old) single machine.AtValue (sort_view token.old.sort)
+        state.old) }
 {
     match token.sort {
         TokenSort::MappingCloser => Ok(close_flow(state, token)?),
@@ -404,6 +443,10 @@ fn behind_alone<'input>(
         (steps.in_flow_mapping_by (options_of options.now)
         (machine_token token.now) single machine.BehindAlone (sort_view token.now.sort) state.old) }
     ensures kept { state.new.kept ≡ state.old.kept }
+    ensures eventless { has_properties state.old.frames ≡ false → 0 < length state.old.frames
+        → StepWantsToGive (answered fault.new result) state.old (steps.in_flow_mapping_by
+        (options_of options.now) (machine_token token.now) single machine.BehindAlone (sort_view token.now.sort)
+        state.old) }
 {
     match token.sort {
         TokenSort::MappingCloser => Ok(close_flow(state, token)?),
@@ -427,6 +470,10 @@ fn behind_flow_pair<'input>(
         (steps.in_flow_mapping_by (options_of options.now)
         (machine_token token.now) single machine.BehindPair (sort_view token.now.sort) state.old) }
     ensures kept { state.new.kept ≡ state.old.kept }
+    ensures eventless { has_properties state.old.frames ≡ false → 0 < length state.old.frames
+        → StepWantsToGive (answered fault.new result) state.old (steps.in_flow_mapping_by
+        (options_of options.now) (machine_token token.now) single machine.BehindPair (sort_view token.now.sort)
+        state.old) }
 {
     match token.sort {
         TokenSort::MappingCloser => Ok(close_flow(state, token)?),
@@ -452,6 +499,11 @@ pub(crate) fn in_flow_mapping<'input>(
         (steps.in_flow_mapping_by (options_of options.now)
         (machine_token token.old) single (pair_view stage) (sort_view token.old.sort) state.old) }
     ensures kept { state.new.kept ≡ state.old.kept }
+    ensures eventless { keeps_text (kind_view token.old.lexeme.value.kind) ≡ false
+        → has_properties state.old.frames ≡ false → 0 < length state.old.frames
+        → StepWantsToGive (answered fault.new result) state.old (steps.in_flow_mapping_by
+        (options_of options.now) (machine_token token.old) single (pair_view stage) (sort_view token.old.sort)
+        state.old) }
 {
     match stage {
         PairStage::BeforePair => before_pair(state, fault, alloc, options, token, single),
@@ -481,6 +533,10 @@ pub(crate) fn in_flow_pair<'input>(
     ensures by_fault { RefusesByFault (answered fault.new result) (steps.in_flow_pair (options_of options.now)
         (machine_token token.old) (pair_view stage) (sort_view token.old.sort) state.old) }
     ensures kept { state.new.kept ≡ state.old.kept }
+    ensures eventless { keeps_text (kind_view token.old.lexeme.value.kind) ≡ false
+        → has_properties state.old.frames ≡ false → 0 < length state.old.frames
+        → StepWantsToGive (answered fault.new result) state.old (steps.in_flow_pair
+        (options_of options.now) (machine_token token.old) (pair_view stage) (sort_view token.old.sort) state.old) }
 {
     match stage {
         PairStage::BehindQuestion => Ok(state.with_top(Frame::FlowPair(PairStage::AtValue))?),

@@ -9,6 +9,7 @@ ghost use Rattle.granit_lexemes.specs.Outcome.{fault_at};
 ghost use Rattle.granit_sorts.specs.SortViews.{machine_token, of_kind, sort_view};
 ghost use Rattle.granit_frames.specs.Refusing.{RefusesByFault};
 ghost use Rattle.granit_frames.specs.StateViews.{stage_view};
+ghost use Rattle.granit_frames.specs.Wanting.{keeps_text, StepWantsToGive};
 ghost use Rattle.granit_feed.specs.AtOnce.{outside_at_once};
 ghost use Rattle.granit_feed.specs.Handles.{KeepsIfRefused};
 ghost use Rattle.granit_items.specs.ItemViews.{kind_view};
@@ -67,6 +68,8 @@ fn with_version<'input>(
         (option_map plain_version version) major minor state.old) }
     ensures memory { version ≡ None → major ≡ 1 → IsOk result }
     ensures kept { state.new.kept ≡ state.old.kept }
+    ensures eventless { StepWantsToGive (answered fault.new result) state.old
+        (steps.with_version (machine_token token.now) (option_map plain_version version) major minor state.old) }
 {
     match version {
         Some(_) => Err(misplaced(fault, token, ErrorKind::DuplicateVersionDirective)),
@@ -149,6 +152,10 @@ fn behind_directives<'input>(
         (machine_token token.old).lexeme.kind (machine_token token.old) (option_map plain_version version) state.old) }
     ensures kept { is_directive (kind_view token.old.lexeme.value.kind) ≡ false → state.new.kept ≡ state.old.kept }
     ensures refused { KeepsIfRefused (answered fault.new result) state.old state.new }
+    ensures eventless { keeps_text (kind_view token.old.lexeme.value.kind) ≡ false
+        → StepWantsToGive (answered fault.new result) state.old
+        (steps.behind_directives (options_of options.now) (machine_token token.old).lexeme.kind
+        (machine_token token.old) (option_map plain_version version) state.old) }
 {
     match mem::replace(&mut token.lexeme.kind, LexemeKind::Comma) {
         LexemeKind::Version(major, minor) => with_version(
@@ -255,6 +262,10 @@ fn first_directive<'input>(
         (steps.behind_directives (options_of options.now)
         (machine_token token.old).lexeme.kind (machine_token token.old) None (steps.without_directives state.old)) }
     ensures refused { KeepsIfRefused (answered fault.new result) state.old state.new }
+    ensures eventless { keeps_text (kind_view token.old.lexeme.value.kind) ≡ false
+        → StepWantsToGive (answered fault.new result) state.old
+        (steps.behind_directives (options_of options.now) (machine_token token.old).lexeme.kind
+        (machine_token token.old) None (steps.without_directives state.old)) }
 {
     state.forget_handles();
     state.forget_names();
@@ -293,6 +304,10 @@ fn when_fresh<'input>(
         (machine_token token.old).lexeme.kind (machine_token token.old) state.old) }
     ensures kept { is_directive (kind_view token.old.lexeme.value.kind) ≡ false → state.new.kept ≡ state.old.kept }
     ensures refused { KeepsIfRefused (answered fault.new result) state.old state.new }
+    ensures eventless { keeps_text (kind_view token.old.lexeme.value.kind) ≡ false
+        → StepWantsToGive (answered fault.new result) state.old
+        (steps.when_fresh (options_of options.now) (machine_token token.old).lexeme.kind
+        (machine_token token.old) state.old) }
 {
     match &token.lexeme.kind {
         LexemeKind::DocumentEnd => Ok(state.flush()?),
@@ -399,6 +414,9 @@ pub(crate) fn outside<'input>(
         (machine_token token.old) state.old) }
     ensures kept { is_directive (kind_view token.old.lexeme.value.kind) ≡ false → state.new.kept ≡ state.old.kept }
     ensures refused { KeepsIfRefused (answered fault.new result) state.old state.new }
+    ensures eventless { keeps_text (kind_view token.old.lexeme.value.kind) ≡ false
+        → StepWantsToGive (answered fault.new result) state.old
+        (steps.outside (options_of options.now) state.old.stage (machine_token token.old) state.old) }
 {
     match state.stage() {
         DocumentStage::Fresh => when_fresh(state, fault, alloc, options, token),

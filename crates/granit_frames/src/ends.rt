@@ -5,6 +5,7 @@ ghost use Rattle.granit_event.specs.Events.{event_kind};
 ghost use Rattle.granit_refused.specs.Answered.{answered};
 ghost use Rattle.granit_frames.specs.Refusing.{RefusesByFault};
 ghost use Rattle.granit_frames.specs.StateViews.{has_properties};
+ghost use Rattle.granit_frames.specs.Wanting.{WantsToGive};
 ghost use Rattle.granit_machine.specs.Frames as spec;
 ghost use Rattle.granit_machine.specs.Giving as giving;
 ghost use Rattle.granit_machine.specs.Leaving.{LeavesIfRoom};
@@ -99,6 +100,7 @@ impl<'input> ParserState<'input> {
     pub fn owed(&mut self, mark: Marker) -> Result<(), NoMemory>
         ensures leaves { OnOk result (self.new ≡ ends.owed mark self.old) }
         ensures kept { self.new.kept ≡ self.old.kept }
+        ensures eventless { WantsToGive result self.old (ends.owed mark self.old) }
     {
         match self.top() {
             Top::Outside => Ok(()),
@@ -123,6 +125,8 @@ impl<'input> ParserState<'input> {
         ensures leaves { (below : _) → OnOk result (self.new
             ≡ ends.owed_in (spec.BlockMapping column (pair_view stage) ∷ below) mark self.old) }
         ensures kept { self.new.kept ≡ self.old.kept }
+        ensures eventless { (below : _) → WantsToGive result self.old
+            (ends.owed_in (spec.BlockMapping column (pair_view stage) ∷ below) mark self.old) }
     {
         match stage {
             PairStage::BeforePair => Ok(()),
@@ -143,6 +147,8 @@ impl<'input> ParserState<'input> {
         ensures leaves { (single : _) (below : _) → OnOk result (self.new
             ≡ ends.owed_in (spec.FlowMapping single (pair_view stage) ∷ below) mark self.old) }
         ensures kept { self.new.kept ≡ self.old.kept }
+        ensures eventless { (single : _) (below : _) → WantsToGive result self.old
+            (ends.owed_in (spec.FlowMapping single (pair_view stage) ∷ below) mark self.old) }
     {
         match stage {
             PairStage::BeforePair => Ok(()),
@@ -163,6 +169,8 @@ impl<'input> ParserState<'input> {
         ensures leaves { (below : _) → OnOk result (self.new
             ≡ ends.owed_in (spec.FlowPair (pair_view stage) ∷ below) mark self.old) }
         ensures kept { self.new.kept ≡ self.old.kept }
+        ensures eventless { (below : _) → WantsToGive result self.old
+            (ends.owed_in (spec.FlowPair (pair_view stage) ∷ below) mark self.old) }
     {
         match stage {
             PairStage::BeforePair => Ok(()),
@@ -325,6 +333,7 @@ impl<'input> ParserState<'input> {
         ensures leaves { OnOk result (self.new ≡ ends.waits mark room self.old) }
         ensures kept { self.new.kept ≡ self.old.kept }
         ensures memory { self.old.waiting ≡ None → IsOk result }
+        ensures eventless { WantsToGive result self.old (ends.waits mark room self.old) }
     {
         self.flush()?;
         self.waiting = Some(Waiting {

@@ -6,6 +6,7 @@ ghost use Rattle.std.specs.VecDeque.{deque_items};
 ghost use Rattle.granit_error.specs.OptionsView.{options_of};
 ghost use Rattle.granit_event.specs.Events.{event_kind, plain_event, plain_events};
 ghost use Rattle.granit_frames.specs.StateViews.{has_properties, held_items};
+ghost use Rattle.granit_frames.specs.Wanting.{WantsToGive};
 ghost use Rattle.granit_machine.specs.Giving as giving;
 ghost use Rattle.granit_node_properties.specs.PropertyViews.{anchor_view, properties_view, bears};
 
@@ -40,6 +41,7 @@ impl<'input> ParserState<'input> {
         ensures leaves { OnOk result (self.new ≡ giving.flush self.old) }
         ensures kept { self.new.kept ≡ self.old.kept }
         ensures memory { self.old.waiting ≡ None → IsOk result }
+        ensures eventless { WantsToGive result self.old (giving.flush self.old) }
     {
         match &self.waiting {
             None => Ok(()),
@@ -52,6 +54,7 @@ impl<'input> ParserState<'input> {
     fn flush_held(&mut self) -> Result<(), NoMemory>
         ensures leaves { OnOk result (self.new ≡ giving.flush self.old) }
         ensures kept { self.new.kept ≡ self.old.kept }
+        ensures eventless { WantsToGive result self.old (giving.flush self.old) }
     {
         match self.waiting.take() {
             None => Ok(()),
@@ -68,6 +71,10 @@ impl<'input> ParserState<'input> {
             }) }
         ensures kept { self.new.kept ≡ self.old.kept }
         ensures memory { held.entry ≡ None → IsOk result }
+        ensures eventless { WantsToGive result self.old (record self.old {
+          given = self.old.given ++
+              plain_events (held_items (option_map deque_items held.entry));
+        }) }
     {
         if let Some(mut held) = held {
             self.given.append(&mut held)?;
@@ -132,6 +139,7 @@ impl<'input> ParserState<'input> {
         ensures leaves { OnOk result (self.new ≡ giving.give_empty self.old) }
         ensures kept { self.new.kept ≡ self.old.kept }
         ensures memory { self.old.waiting ≡ None → IsOk result }
+        ensures eventless { WantsToGive result self.old (giving.give_empty self.old) }
     {
         match &self.waiting {
             None => Ok(()),

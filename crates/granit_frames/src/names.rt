@@ -1,5 +1,5 @@
 //! What names and handles stand for (YAML 1.2.2, 6.8.2 and 7.1).
-ghost use Rattle.std.specs.Prelude.{◌≡◌, [], length, nat_lt, OnOk};
+ghost use Rattle.std.specs.Prelude.{◌≡◌, [], true, length, nat_lt, IsOk, IsSome, OnOk};
 ghost use Rattle.std.specs.Option.{option_map};
 ghost use Rattle.std.specs.Str.{chars};
 ghost use Rattle.granit_error.specs.OptionsView.{options_of};
@@ -27,15 +27,17 @@ fn number_of<'input>(names: &BTreeMap<Text<'input>, usize>, name: &Text<'input>)
 /// # Errors
 ///
 /// `NoMemory` alone.
-#[tactic(auto, using(crate::proofs::EntryLemmas::name_inserted))]
+#[tactic(auto, using(crate::proofs::EntryLemmas::name_inserted, crate::proofs::EntryLemmas::name_found))]
 pub(crate) fn remember_name<'input>(
     names: &mut BTreeMap<Text<'input>, usize>,
     alloc: Global,
     name: &Text<'input>,
     number: usize,
 ) -> Result<(), NoMemory>
-    ensures { OnOk result (names_view names.new.entries ≡ remembered name.now.characters number
+    ensures remembers { OnOk result (names_view names.new.entries ≡ remembered name.now.characters number
         (names_view names.old.entries)) }
+    ensures again { name.now.is_borrowed ≡ true
+        → IsSome (lookup_text name.now.characters (names_view names.old.entries)) → IsOk result }
 {
     names.insert(name.try_clone(alloc)?, number)?;
     Ok(())
@@ -63,8 +65,9 @@ fn remember_handle<'input>(
     handle: Text<'input>,
     prefix: Text<'input>,
 ) -> Result<(), NoMemory>
-    ensures { OnOk result (handles_view handles.new.entries
+    ensures remembers { OnOk result (handles_view handles.new.entries
         ≡ remembered handle.entry.characters prefix.entry.characters (handles_view handles.old.entries)) }
+    ensures again { IsSome (lookup_text handle.entry.characters (handles_view handles.old.entries)) → IsOk result }
 {
     handles.insert(handle, prefix)?;
     Ok(())
@@ -77,8 +80,10 @@ fn remember_copies<'input>(
     handle: &Text<'input>,
     prefix: &Text<'input>,
 ) -> Result<(), NoMemory>
-    ensures { OnOk result (handles_view handles.new.entries
+    ensures remembers { OnOk result (handles_view handles.new.entries
         ≡ remembered handle.now.characters prefix.now.characters (handles_view handles.old.entries)) }
+    ensures again { handle.now.is_borrowed ≡ true → prefix.now.is_borrowed ≡ true
+        → IsSome (lookup_text handle.now.characters (handles_view handles.old.entries)) → IsOk result }
 {
     let handle = handle.try_clone(alloc)?;
     remember_handle(handles, handle, prefix.try_clone(alloc)?)
@@ -145,8 +150,11 @@ impl<'input> ParserState<'input> {
         prefix: Text<'input>,
         stays: bool,
     ) -> Result<(), NoMemory>
-        ensures { OnOk result (self.new
+        ensures remembers { OnOk result (self.new
             ≡ declared stays handle.entry.characters prefix.entry.characters self.old) }
+        ensures again { IsSome (lookup_text handle.entry.characters self.old.handles)
+            → (stays ≡ true → (handle.entry.is_borrowed ≡ true) × (prefix.entry.is_borrowed ≡ true)
+            × IsSome (lookup_text handle.entry.characters self.old.kept)) → IsOk result }
     {
         if stays {
             remember_copies(&mut self.kept, alloc, &handle, &prefix)?;

@@ -1,6 +1,8 @@
 //! Properties of a node that must come (YAML 1.2.2, 6.9).
-ghost use Rattle.std.specs.Prelude.{◌≡◌, Some, OnOk};
+ghost use Rattle.std.specs.Prelude.{◌≡◌, ◌<◌, ◌-◌, ◌^◌, true, Some, IsOk, IsSome, OnOk};
 ghost use Rattle.granit_sorts.specs.SortViews.{machine_token};
+ghost use Rattle.granit_frames.specs.Wanting.{WantsToGive};
+ghost use Rattle.granit_machine.specs.Entries.{lookup_text};
 ghost use Rattle.granit_machine.specs.Giving as giving;
 ghost use Rattle.granit_machine.specs.NodeSteps as steps;
 ghost use Rattle.granit_node_properties.specs.PropertyViews.{anchor_view, tag_view};
@@ -71,6 +73,8 @@ impl<'input> ParserState<'input> {
     ) -> Result<(), NoMemory>
         ensures leaves { OnOk result (self.new ≡ steps.anchored (machine_token token.now) name.entry self.old) }
         ensures kept { self.new.kept ≡ self.old.kept }
+        ensures again { name.entry.is_borrowed ≡ true → self.old.count < 2 ^ 64 - 1
+            → IsSome (lookup_text name.entry.characters self.old.names) → IsOk result }
     {
         // A count past `usize` would want more memory than there is.
         let Some(number) = self.count.checked_add(1) else {
@@ -97,6 +101,7 @@ impl<'input> ParserState<'input> {
             ≡ steps.tagged (machine_token token.now) tag.original_handle tag.suffix tag.handle
             (giving.flush self.old)) }
         ensures kept { self.new.kept ≡ self.old.kept }
+        ensures eventless { WantsToGive result self.old (giving.flush self.old) }
     {
         self.flush()?;
         self.set_tag(NodeTag {

@@ -1,5 +1,5 @@
 //! A lexeme where a node must stand (YAML 1.2.2, 6.9, 7.1 and 8.2).
-ghost use Rattle.std.specs.Prelude.{◌≡◌, true, false, nat_le, codes, None, Some, IfOk, IsOk, OnOk};
+ghost use Rattle.std.specs.Prelude.{◌≡◌, ◌<◌, true, false, length, nat_le, codes, None, Some, IfOk, IsOk, OnOk};
 ghost use Rattle.std.specs.Option.{option_map};
 ghost use Rattle.std.specs.Str.{chars};
 ghost use Rattle.granit_error.specs.OptionsView.{options_of};
@@ -7,6 +7,8 @@ ghost use Rattle.granit_event.specs.Events.{event_kind};
 ghost use Rattle.granit_refused.specs.Answered.{answered};
 ghost use Rattle.granit_sorts.specs.SortViews.{machine_token, of_kind, sort_view};
 ghost use Rattle.granit_frames.specs.Refusing.{AnswersValue, RefusesByFault};
+ghost use Rattle.granit_frames.specs.StateViews.{has_properties};
+ghost use Rattle.granit_frames.specs.Wanting.{StepWantsToGive};
 ghost use Rattle.granit_node_properties.specs.PropertyViews.{bears};
 ghost use Rattle.granit_nesting.specs.FrameViews.{pair_view};
 ghost use Rattle.granit_items.specs.ItemViews.{boxed_view};
@@ -232,6 +234,9 @@ pub fn next_dash<'input>(
     ensures leaves { LeavesIfRoom (answered fault.new result) state.new (steps.take_dash (options_of options.now)
         (machine_token token.old) steps.NextEntry indentless state.old) }
     ensures by_fault { RefusesByFault (answered fault.new result) (steps.take_dash (options_of options.now)
+        (machine_token token.old) steps.NextEntry indentless state.old) }
+    ensures eventless { has_properties state.old.frames ≡ false → 0 < length state.old.frames
+        → StepWantsToGive (answered fault.new result) state.old (steps.take_dash (options_of options.now)
         (machine_token token.old) steps.NextEntry indentless state.old) }
     ensures kept { state.new.kept ≡ state.old.kept }
 {

@@ -1,5 +1,5 @@
 //! Items one behind another, of which mostly few wait.
-ghost use Rattle.std.specs.Prelude.{◌≡◌, ◌==◌, ◌||◌, true, [], ◌∷◌, ◌++◌, drop, length, map, take, OnErr, OnOk};
+ghost use Rattle.std.specs.Prelude.{◌≡◌, ◌==◌, ◌||◌, true, [], ◌∷◌, ◌++◌, drop, length, map, take, IsOk, OnErr, OnOk};
 ghost use Rattle.std.specs.Prelude.{slice_get};
 ghost use Rattle.std.specs.Option.{option_copied};
 ghost use Rattle.granit_items.specs.ItemViews.{item_view};
@@ -82,6 +82,7 @@ impl<'input> Items<'input> {
     pub(crate) fn push(&mut self, queued: Queued<'input>) -> Result<(), NoMemory>
         ensures pushed { OnOk result (self.new ≡ self.old ++ queued.entry ∷ []) }
         ensures kept { OnErr result (self.new ≡ self.old) }
+        ensures memory { self.old ≡ [] → IsOk result }
     {
         if self.is_empty() {
             self.oldest = Some(queued);

@@ -1,5 +1,5 @@
 //! Items that were read and not yet taken.
-ghost use Rattle.std.specs.Prelude.{◌≡◌, ◌==◌, true, false, [], ◌∷◌, length, map, OnOk};
+ghost use Rattle.std.specs.Prelude.{◌≡◌, ◌==◌, ◌≤◌, true, false, [], ◌∷◌, length, map, IsOk, OnOk};
 ghost use Rattle.std.specs.Prelude.{slice_get, drop, take};
 ghost use Rattle.std.specs.Option.{option_copied, option_map};
 ghost use Rattle.granit_items.specs.ItemViews.{found_items, item_view, key_view};
@@ -59,13 +59,15 @@ impl<'input> Queue<'input> {
     ///
     /// # Errors
     ///
-    /// `NoMemory` alone.
+    /// `NoMemory` alone, and where one item comes and none waited, or none comes, none at all.
     pub fn push_found(
         &mut self,
         found: Found<'input>,
         rooms: &mut Rooms<'input>,
     ) -> Result<(), NoMemory>
-        ensures { OnOk result (self.new ≡ spec.pushed self.old (found_items found.entry)) }
+        ensures pushed { OnOk result (self.new ≡ spec.pushed self.old (found_items found.entry)) }
+        ensures none { found_items found.entry ≡ [] → IsOk result }
+        ensures memory { self.old ≡ [] → length (found_items found.entry) ≤ 1 → IsOk result }
     {
         push_all(&mut self.items, &mut self.numbers, found, rooms)
     }
@@ -118,6 +120,8 @@ fn push_all<'input>(
     requires rising { NumbersRise numbers.old (queue_view items.old) }
     ensures pushed { OnOk result (queue_view items.new
         ≡ spec.pushed (queue_view items.old) (found_items found.entry)) }
+    ensures none { found_items found.entry ≡ [] → IsOk result }
+    ensures memory { queue_view items.old ≡ [] → length (found_items found.entry) ≤ 1 → IsOk result }
     ensures rising { NumbersRise numbers.new (queue_view items.new) }
 {
     // No `:` was read behind what was found.
@@ -151,6 +155,7 @@ fn push<'input>(
     requires rising { NumbersRise numbers.old (queue_view items.old) }
     ensures pushed { OnOk result (queue_view items.new
         ≡ spec.pushed (queue_view items.old) (item_view queued.entry.item ∷ [])) }
+    ensures memory { queue_view items.old ≡ [] → IsOk result }
     ensures rising { NumbersRise numbers.new (queue_view items.new) }
 {
     mark_by(items, numbers.rises, &queued.item);

@@ -3,6 +3,7 @@ use Rattle.granit_error.specs.OptionsView.{options_of}
 use Rattle.granit_refused.specs.Answered.{answered}
 use Rattle.granit_sorts.specs.SortViews.{machine_token}
 use Rattle.granit_feed.proofs.AtOnceLemmas.{token_refuses}
+use Rattle.granit_feed.proofs.TokenGiving.{token_wants}
 use Rattle.granit_feed.proofs.feeding.take_lexeme.Goals as goal
 
 pub returns-then-takes_tail-clause-by_fault : goal.returns-then-takes_tail-clause-by_fault
@@ -19,3 +20,9 @@ returns-clause-by_fault c = λ at_once.
     token_refuses (options_of c.args.options.now) (machine_token c.args.token.now) c.args.next_line
     c.args.state.now at_once c.close.new.self (answered c.take_token.new.fault c.take_token.result)
     c.in_ok-close.ensures.leaves c.take_token.ensures.by_fault
+
+pub returns-clause-eventless : goal.returns-clause-eventless
+returns-clause-eventless c = λ takes.
+    token_wants (options_of c.args.options.now) (machine_token c.args.token.now) c.args.next_line
+    c.args.state.now takes c.close.new.self (answered c.take_token.new.fault c.take_token.result)
+    c.in_ok-close.ensures.leaves c.take_token.ensures.eventless

@@ -1,0 +1,12 @@
+use Rattle.std.proofs.Common.{ap}
+use Rattle.granit_error.specs.OptionsView.{options_of}
+use Rattle.granit_machine.specs.Frames.{BehindPair}
+use Rattle.granit_sorts.specs.SortViews.{machine_token, sort_view}
+use Rattle.granit_feed.proofs.FlowGiving.{closer_gives}
+use Rattle.granit_feed.proofs.flow.behind_flow_pair.Goals as goal
+
+pub returns-in_err-close_flow-in-MappingCloser-clause-eventless :
+    goal.returns-in_err-close_flow-in-MappingCloser-clause-eventless
+returns-in_err-close_flow-in-MappingCloser-clause-eventless c = λ bare deep.
+    closer_gives (options_of c.args.options.now) (machine_token c.args.token.now) _ c.args.state.now
+    c.args.single BehindPair (sort_view c.args.token.now.sort) (ap sort_view c.in-MappingCloser.is)
