@@ -1,0 +1,12 @@
+pub mod BoundaryLeft
+pub mod CallsLeft
+pub mod ChainLaws
+pub mod FedEnds
+pub mod FeedEnds
+pub mod LeftTurns
+pub mod Restarts
+pub mod Skips
+pub mod StartWaits
+pub mod Stuck
+pub mod Telling
+pub mod TextOver

@@ -1,0 +1,2 @@
+pub mod ChainRows
+pub mod Chains
