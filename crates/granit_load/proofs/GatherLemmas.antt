@@ -7,9 +7,8 @@ use Rattle.granit_input.specs.Origin.{Origin}
 use Rattle.granit_lexemes.specs.PlainEvent.{PlainEvent}
 use Rattle.granit_load.specs.Answering.{GivesAllOr}
 use Rattle.granit_parser.specs.Parsing.{LeavesNumbers, LeadsTo, Parsing}
-use Rattle.granit_parser.specs.Gathering.{LeadsOut, RefusesLate}
+use Rattle.granit_parser.specs.Gathering.{LeadsOut, RefusesLate, IsSourceError}
 use Rattle.granit_parser.specs.Receiving.{RefusalIn}
-use Rattle.granit_parser.specs.Sources.{IsSourceError}
 use Rattle.granit_parser.proofs.TextLemmas.{given_behind}
 use Rattle.granit_steps.specs.Steps.{StepState}
 use Rattle.granit_steps.specs.Told.{GivesEvents, gives_end, gives_fault}

@@ -41,7 +41,7 @@ use Rattle.granit_parser.proofs.TextLemmas.{memory_or_not}
 use Rattle.granit_reading.proofs.ParserSources.{run_none}
 use Rattle.granit_readings.specs.ReadAsTrees.{TellsTrees}
 use Rattle.granit_readings.proofs.ReadOnce.{answer_trees}
-use Rattle.granit_stepper.specs.Stepping.{Stepping}
+use Rattle.granit_parser.specs.Parsing.{Stepping}
 use Rattle.granit_steps.specs.Levels.{IsStream}
 use Rattle.granit_steps.specs.Steps.{steps_start}
 use Rattle.granit_steps.specs.Told.{GivesEvents}

@@ -14,13 +14,13 @@ use Rattle.granit_lexemes.specs.Here.{Here, start_of}
 use Rattle.granit_lexemes.specs.Onward.{Onward}
 use Rattle.granit_lexemes.specs.Outcome.{Fault, Fails, GivesValue}
 use Rattle.granit_lexemes.specs.PlainEvent.{PlainEvent}
-use Rattle.granit_stepper.specs.Stepping.{Stepping}
+use Rattle.granit_parser.specs.Parsing.{Stepping}
 use Rattle.granit_steps.specs.Steps.{StepState, start_from}
 use Rattle.granit_steps.specs.Told.{GivesEvents, answer}
 use Rattle.granit_load.specs.Answering.{AnswersItems, GivesAll, GivesAllOr, GivesWhole, IsPlacedFrom, IsPlacedOn}
 use Rattle.granit_load.specs.Answering.{IsPlacedOr, bare_run}
 use Rattle.granit_load.proofs.GatherLemmas.{never_failed, never_numbered}
-use Rattle.granit_parser.specs.Sources.{GoesGiving, IsSourceError}
+use Rattle.granit_parser.specs.Gathering.{GoesGiving, IsSourceError}
 use Rattle.granit_parser.specs.Streams.{bare_text_start}
 use Rattle.granit_parser.proofs.StartLaws.{calls_give}
 

@@ -15,11 +15,10 @@ use Rattle.granit_lexemes.specs.Onward.{Onward}
 use Rattle.granit_lexemes.specs.Outcome.{Fault, Fails}
 use Rattle.granit_lexemes.specs.PlainEvent.{PlainEvent}
 use Rattle.granit_machine.specs.Machine.{run}
-use Rattle.granit_parser.specs.Parsing.{LeadsTo}
-use Rattle.granit_parser.specs.Sources.{GoesGiving, IsSourceError}
+use Rattle.granit_parser.specs.Parsing.{LeadsTo, Stepping}
+use Rattle.granit_parser.specs.Gathering.{GoesGiving, IsSourceError}
 use Rattle.granit_parser.specs.Streams.{bare_text_start}
-use Rattle.granit_stepper.specs.Numbers.{NoNumberLeft}
-use Rattle.granit_stepper.specs.Stepping.{Stepping}
+use Rattle.granit_parser.specs.Numbers.{NoNumberLeft}
 use Rattle.granit_steps.specs.Steps.{StepState}
 use Rattle.granit_steps.specs.Told.{GivesEvents}
 

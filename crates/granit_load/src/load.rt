@@ -28,7 +28,7 @@ ghost use Rattle.granit_model.specs.FlowText.{flow_characters};
 ghost use Rattle.granit_model.specs.Tree.{DocumentsFit, PlainTrees, trees_depth};
 ghost use Rattle.granit_load.specs.Answering.{GivesAllOr, IsRefusedAs};
 ghost use Rattle.granit_parser.specs.Parsing.{LeavesNumbers, StandsAt};
-ghost use Rattle.granit_parser.specs.Sources.{GoesGiving};
+ghost use Rattle.granit_parser.specs.Gathering.{GoesGiving};
 ghost use Rattle.granit_readings.specs.ReadAsTrees.{TellsTrees};
 ghost use Rattle.granit_steps.specs.Levels.{IsStream};
 ghost use Rattle.granit_steps.specs.Steps.{StepState};

@@ -1,5 +1,5 @@
 -- What calls give behind a boundary is what the text that is left there tells alone, moved.
-use Rattle.std.proofs.Common.{◌≡◌, ◌≢◌, ℕ, Bool, List, [], ◌∷◌, ◌++◌, Option, Some, None, Ok, Err, ◌⊎◌, inl, inr}
+use Rattle.std.proofs.Common.{◌≡◌, ◌≢◌, ℕ, Bool, List, [], ◌∷◌, ◌++◌, Some, None, Ok, Err, ◌⊎◌, inl, inr}
 use Rattle.granit_alone.proofs.AloneLaws.{begins_by, caused_by, reads_by}
 use Rattle.granit_event.specs.Events.{plain_event}
 use Rattle.granit_error.specs.FaultKind.{NoMemory}
@@ -9,10 +9,11 @@ use Rattle.granit_lexemes.specs.Outcome.{Fails}
 use Rattle.granit_lexemes.specs.PlainEvent.{PlainEvent}
 use Rattle.granit_parser.proofs.TextLemmas.{given_behind, leads_front, leads_more, memory_or_not}
 use Rattle.granit_parser.specs.Alone.{BeginsAlone, CausedAlone, EndsAlone}
-use Rattle.granit_parser.specs.Parsing.{Next, GivesNext, LeadsTo}
+use Rattle.granit_parser.specs.Parsing.{Next, LeadsTo}
 use Rattle.granit_shifted.proofs.ToldOnce.{told_alone}
 use Rattle.granit_shifted.specs.Alone.{TellsMoved, behind_first}
 use Rattle.granit_shifted.specs.Shift.{Shift, moved_events, moved_fault_of}
+use Rattle.granit_sourced.specs.Giving.{GivesNext}
 use Rattle.granit_steps.specs.Steps.{StepState, next_event}
 use Rattle.granit_steps.specs.Told.{gives_end, gives_fault, told_of}
 

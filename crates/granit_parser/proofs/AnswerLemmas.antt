@@ -1,6 +1,6 @@
 -- What a parser answers where recovery asks, and where it then is.
-use Rattle.std.proofs.Common.{◌≡◌, ◌⊎◌, inl, inr, ℕ, ◌+◌, Bool, true, false, [], Some, None}
-use Rattle.std.proofs.Common.{Result, Ok, Err, refl, sym, ap, subst, ◌∙◌, arith}
+use Rattle.std.proofs.Common.{◌≡◌, ◌⊎◌, inl, inr, ℕ, ◌+◌, Bool, true, false, [], Some, None, Result, Ok, Err, refl, sym}
+use Rattle.std.proofs.Common.{ap, subst, ◌∙◌, arith}
 use Rattle.std.specs.Prelude.{IfOk}
 use Rattle.granit_base.specs.Place.{Unread}
 use Rattle.granit_base.specs.declared.place.Span.{Span}
@@ -10,16 +10,14 @@ use Rattle.granit_event.specs.declared.event.Event.{Event}
 use Rattle.granit_event.specs.Events.{plain_event}
 use Rattle.granit_lexemes.specs.Outcome.{Fault}
 use Rattle.granit_lexemes.specs.PlainEvent.{EventKind, DocumentStart, DocumentEnd, StreamEnd, Comment}
-use Rattle.granit_parser.proofs.CallLemmas.{further}
 use Rattle.granit_parser.proofs.DropLemmas.{goes_same}
-use Rattle.granit_parser.proofs.GoesLemmas.{note_keeps, noted_steps}
 use Rattle.granit_parser.proofs.RecoverLemmas.{answered_steps}
 use Rattle.granit_parser.specs.Parsing.{Next, Parsing}
 use Rattle.granit_seen.specs.Seeing as seeing
-use Rattle.granit_parser.specs.Recovering.{AnswersIn, AsksAt, AsksBefore, AsksBy, AsksNow, ComesBy, Follows}
-use Rattle.granit_parser.specs.Recovering.{GoesWithCalls, MeetsNumber, SeenBy, SeenTells, asking_document, comes_ahead}
+use Rattle.granit_parser.specs.Recovering.{AnswersIn, AsksBefore, AsksBy, AsksNow, ComesBy, Follows, MeetsNumber}
+use Rattle.granit_parser.specs.Recovering.{SeenBy, SeenTells, asking_document, comes_ahead, comes_bare, comes_seen}
+use Rattle.granit_parser.specs.Recovering.{seen_comment, seen_in, seen_other}
 use Rattle.granit_seen.specs.Seeing.{seen_kind}
-use Rattle.granit_parser.specs.Recovering.{comes_bare, comes_seen, seen_comment, seen_in, seen_other}
 use Rattle.granit_recovery.specs.Asking.{LookTells}
 use Rattle.granit_restart.proofs.AheadLaws.{look_is_ahead}
 use Rattle.granit_restart.proofs.EndLaws.{look_none}
@@ -30,6 +28,9 @@ use Rattle.granit_restart.specs.Looking.{look_ahead}
 use Rattle.granit_restart.specs.Recovery.{comment_count, recover, recovered, recovery_answer, resumed}
 use Rattle.granit_restart.specs.Skipping.{Stops, with_pending}
 use Rattle.granit_restart.specs.Turned.{Turned}
+use Rattle.granit_sourced.proofs.CallLemmas.{further}
+use Rattle.granit_sourced.proofs.GoesLemmas.{note_keeps, noted_steps}
+use Rattle.granit_sourced.specs.Going.{GoesWithCalls}
 use Rattle.granit_stepper.specs.Numbers.{RefusesNumber}
 use Rattle.granit_stepper.specs.Recovering.{Looks}
 use Rattle.granit_stepper.specs.Refusals.{StandsAhead}

@@ -1,17 +1,15 @@
 -- Between calls another number is set, or another option: a parser is then where turns made early lead to, with that.
-use Rattle.std.proofs.Common.{◌≡◌, inl, inr, ℕ, true, false, List, [], ◌∷◌, Option, Some}
-use Rattle.std.proofs.Common.{None, Ok, Err, refl, sym, ap, subst, ◌∙◌}
+use Rattle.std.proofs.Common.{◌≡◌, inl, inr, ℕ, true, false, List, [], ◌∷◌, Option, Some, None, Ok, Err, refl, sym, ap}
+use Rattle.std.proofs.Common.{subst, ◌∙◌}
 use Rattle.granit_base.specs.Place.{Unread}
 use Rattle.granit_error.specs.OptionsData.{OptionsData}
 use Rattle.granit_event.specs.Events.{plain_event}
 use Rattle.granit_lexemes.specs.Outcome.{Fault}
 use Rattle.granit_lexemes.specs.PlainEvent.{PlainEvent, EventKind, DocumentStart, DocumentEnd, StreamEnd}
-use Rattle.granit_parser.proofs.CallLemmas.{Comes, comes, comes_on, waits}
-use Rattle.granit_parser.proofs.GoesLemmas.{noted_steps}
 use Rattle.granit_parser.proofs.InLemmas.{closed_open, goes_in, open_seen}
 use Rattle.granit_parser.specs.Parsing.{Next, Parsing, StandsBefore}
-use Rattle.granit_parser.specs.Recovering.{AnswersBy, ChangesIn, Failed, GaveUp, GoesWithCalls, IsClosed, IsOpen}
-use Rattle.granit_parser.specs.Recovering.{ParserIn, SeenBy, SeenNext, SeenNone, SeenOrFails}
+use Rattle.granit_parser.specs.Recovering.{AnswersBy, ChangesIn, GaveUp, IsClosed, IsOpen, ParserIn, SeenBy, SeenNone}
+use Rattle.granit_parser.specs.Recovering.{SeenOrFails}
 use Rattle.granit_recovery.specs.Streams.{EarlyOf, not_early, turn_early}
 use Rattle.granit_restart.proofs.AheadLaws.{one, OneTurn, waits_next}
 use Rattle.granit_restart.specs.Ahead.{AheadOf, not_ahead, turn_made}
@@ -19,6 +17,9 @@ use Rattle.granit_restart.specs.Calls.{Calls, noted}
 use Rattle.granit_restart.specs.Looking.{behind_waiting, turn_ahead}
 use Rattle.granit_restart.specs.Skipping.{with_pending}
 use Rattle.granit_restart.specs.Turned.{Turned, with_count}
+use Rattle.granit_sourced.proofs.CallLemmas.{Comes, comes, comes_on, waits}
+use Rattle.granit_sourced.proofs.GoesLemmas.{noted_steps}
+use Rattle.granit_sourced.specs.Going.{Failed, GoesWithCalls, SeenNext}
 use Rattle.granit_stepper.specs.Refusals.{FailsIn, StandsAhead, StandsRefused}
 use Rattle.granit_stepper.specs.Stepping.{StandsIn, Stepping}
 use Rattle.granit_steps.specs.Steps.{StepState, next_event, step_turn}

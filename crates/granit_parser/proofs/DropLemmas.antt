@@ -1,6 +1,5 @@
 -- What a parser drops where the machine's calls led, and where it then asks whether another document is there.
-use Rattle.std.proofs.Common.{◌≡◌, ◌⊎◌, inl, inr, ℕ, suc, ◌+◌, Bool, true, false, not, ◌&&◌, is_some}
-use Rattle.std.proofs.Common.{Option, Some}
+use Rattle.std.proofs.Common.{◌≡◌, ◌⊎◌, inl, inr, ℕ, suc, ◌+◌, Bool, true, false, not, ◌&&◌, is_some, Option, Some}
 use Rattle.std.proofs.Common.{None, Result, Ok, Err, refl, sym, ap, subst, ◌∙◌}
 use Rattle.std.specs.Prelude.{IfErr, IfOk, IfSome, OnOk}
 use Rattle.granit_base.specs.Place.{Unread}
@@ -10,20 +9,17 @@ use Rattle.granit_error.specs.Refused.{Refused}
 use Rattle.granit_event.specs.Events.{plain_event}
 use Rattle.granit_lexemes.specs.Outcome.{Fault}
 use Rattle.granit_lexemes.specs.PlainEvent.{PlainEvent, EventKind, DocumentStart, DocumentEnd, StreamEnd, Comment}
-use Rattle.granit_parser.proofs.CallLemmas.{ahead_turned, comes, ends, skip_over, skip_to_end}
-use Rattle.granit_parser.proofs.GoesLemmas.{note_keeps, noted_steps, stands_going}
-use Rattle.granit_parser.proofs.RecoverLemmas.{answered_steps, any_stops, fits, fitting}
-use Rattle.granit_parser.proofs.RecoverLemmas.{asks_dropped, asks_fault, asks_here, asks_on, asks_seen, begins}
-use Rattle.granit_parser.proofs.RecoverLemmas.{look_other, seen_call, skipped_here, skipped_on, skipped_to_fault}
-use Rattle.granit_parser.proofs.RecoverLemmas.{starts_between, starts_fault, starts_over, starts_steps}
+use Rattle.granit_parser.proofs.RecoverLemmas.{answered_steps, any_stops, fits, fitting, asks_dropped, asks_fault}
+use Rattle.granit_parser.proofs.RecoverLemmas.{asks_here, asks_on, asks_seen, begins, look_other, seen_call}
+use Rattle.granit_parser.proofs.RecoverLemmas.{skipped_here, skipped_on, skipped_to_fault, starts_between, starts_fault}
+use Rattle.granit_parser.proofs.RecoverLemmas.{starts_over, starts_steps}
 use Rattle.granit_parser.specs.Parsing.{EndsBehind, Next, Parsing}
 use Rattle.granit_seen.specs.Seeing as seeing
-use Rattle.granit_parser.specs.Recovering.{AnswersBy, AsksAt, AsksBefore, AsksBy, AsksNow, ComesBy, Failed}
-use Rattle.granit_parser.specs.Recovering.{GoesWithCalls, MeetsNumber, ParserIn, SeenBy, SeenNext, SeenTells}
-use Rattle.granit_parser.specs.Recovering.{SkipsToAsk, SeenOrFails, asking_document, comes_ahead, comes_anew}
+use Rattle.granit_parser.specs.Recovering.{AnswersBy, AsksBefore, AsksBy, AsksNow, ComesBy, MeetsNumber, ParserIn}
+use Rattle.granit_parser.specs.Recovering.{SeenBy, SeenTells, SeenOrFails, asking_document, comes_ahead, comes_anew}
 use Rattle.granit_parser.specs.Recovering.{comes_dropping, comes_here, comes_seen, StopsBy, StopsDropping, StopsIn}
-use Rattle.granit_seen.specs.Seeing.{seen_kind}
 use Rattle.granit_parser.specs.Recovering.{comes_behind, comes_ended, seen_comment, seen_in, seen_other}
+use Rattle.granit_seen.specs.Seeing.{seen_kind}
 use Rattle.granit_seen.specs.declared.seen.Seen.TheVariants as seens
 use Rattle.granit_recovery.specs.Asking.{LookTells}
 use Rattle.granit_recovery.specs.Streams.{ReachedByCalls, reached_call, reached_recovery}
@@ -36,6 +32,9 @@ use Rattle.granit_restart.specs.Restart.{behind_fault}
 use Rattle.granit_restart.specs.Skipping.{Ended, Failed as failed_there, SkipEnd, Stops, skip_by_turns}
 use Rattle.granit_restart.specs.Skipping.{skipped_document, skipped_fault, skipped_to}
 use Rattle.granit_restart.specs.Turned.{Turned}
+use Rattle.granit_sourced.proofs.CallLemmas.{ahead_turned, comes, ends, skip_over, skip_to_end}
+use Rattle.granit_sourced.proofs.GoesLemmas.{note_keeps, noted_steps, stands_going}
+use Rattle.granit_sourced.specs.Going.{Failed, GoesWithCalls, SeenNext}
 use Rattle.granit_stepper.specs.Numbers.{RefusesNumber}
 use Rattle.granit_stepper.specs.Recovering.{DropsOn, SkipsDocument, SkipsFault}
 use Rattle.granit_stepper.specs.Refusals.{StandsAhead}

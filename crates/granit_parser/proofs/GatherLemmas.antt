@@ -1,6 +1,6 @@
 -- All events that a parser still gives, as one list.
-use Rattle.std.proofs.Common.{◌≡◌, ◌<◌, ◌-◌, ◌^◌, ℕ, Bool, true, false, ◌==◌, ◌||◌, not, List, [], ◌∷◌, ◌++◌, length}
-use Rattle.std.proofs.Common.{◌≤◌, Option, Some, None, Result, Ok, Err, refl, sym, ap, subst, ◌∙◌, ◌⊎◌, inl, inr, arith}
+use Rattle.std.proofs.Common.{◌≡◌, ◌<◌, ◌-◌, ◌^◌, ℕ, Bool, true, false, ◌==◌, not, List, [], ◌∷◌, ◌++◌, length, Option}
+use Rattle.std.proofs.Common.{Some, None, Result, Ok, Err, refl, sym, ap, subst, ◌∙◌, ◌⊎◌, inl, inr, arith}
 use Rattle.std.specs.Prelude.{IfErr, IfOk, IfSome}
 use Rattle.std.proofs.lemmas.List.{append-nil, length-append}
 use Rattle.granit_base.specs.Place.{Mark, Unread}
@@ -13,14 +13,13 @@ use Rattle.granit_input.specs.Origin.{Goes, Origin}
 use Rattle.granit_lexemes.specs.Outcome.{Fails}
 use Rattle.granit_lexemes.specs.PlainEvent.{PlainEvent}
 use Rattle.granit_machine.specs.Frames.{ParserState}
-use Rattle.granit_parser.specs.Gathering.{Gathered, GathersSome, LeadsOut, RefusesLate, WaitsGathered}
-use Rattle.granit_parser.specs.Gathering.{WaitsOrRefuses}
-use Rattle.granit_parser.specs.Parsing.{EndsBehind, EndsWith, LeadsTo, Next, Parsing, StandsAt, StandsBefore}
-use Rattle.granit_parser.specs.Parsing.{none_given, first_given}
+use Rattle.granit_parser.specs.Gathering.{Gathered, GathersSome, LeadsOut, RefusesLate, WaitsGathered, WaitsOrRefuses}
+use Rattle.granit_parser.specs.Parsing.{LeadsTo, Next, Parsing, StandsAt, StandsBefore, none_given, first_given}
 use Rattle.granit_parser.specs.Receiving.{RefusalIn}
-use Rattle.granit_parser.proofs.SourceLemmas.{giving_on, moves_seen}
-use Rattle.granit_parser.specs.Sources.{GoesGiving, GoesUnless, IfUnseen, MovesUnless, TellsSource}
+use Rattle.granit_parser.proofs.SourceLemmas.{moves_seen}
 use Rattle.granit_restart.specs.Skipping.{with_pending}
+use Rattle.granit_sourced.proofs.SourceLemmas.{giving_on}
+use Rattle.granit_sourced.specs.Sources.{GoesGiving, GoesUnless, IfUnseen, MovesUnless, TellsSource}
 use Rattle.granit_stepper.proofs.GatherLemmas.{settled_ends, settled_gives, waits_settled}
 use Rattle.granit_stepper.proofs.StateLemmas.{next_fails, waiting}
 use Rattle.granit_stepper.proofs.TurnLemmas.{none_given as none_waits, some_given as some_waits}
@@ -209,39 +208,6 @@ module _ {I : Type 0} (unread : I → Unread → Type 0) (o : OptionsData) (m : 
     refused_by origin (with_pending [] w.at) p e (fails (with_pending now.parser.given w.at) w.stands w.told),
   )
 
--- ---- a source that was asked behind a call
-
-pub waiting_on : {I : Type 0} (unread : I → Unread → Type 0) (r : Result Bool Refused) (mid new : Stepping I) (b : Bool)
-    (o : OptionsData) (m : StepState) → new.renumbered ≡ b
-    → ((n : StepState) → StandsIn unread mid n → StandsIn unread new n)
-    → GathersBehind r (StandsIn unread mid) o m (RefusesNumber b o (with_pending [] m))
-    → GathersBehind r (StandsIn unread new) o m (RefusesNumber new.renumbered o (with_pending [] m))
-waiting_on unread (Ok some) mid new b o m same on gives =
-    (gives.0, gives.1, on (with_pending (m.pending ++ gives.0.pending) gives.0) gives.2, gives.3)
-waiting_on unread (Err e) mid new b o m same on (inl fails) = inl fails
-waiting_on unread (Err e) mid new b o m same on (inr left) =
-    inr (subst (λ (c : Bool). RefusesNumber c o (with_pending [] m) e) (sym same) left)
-
-pub fails_on : {I E : Type 0} (r : Result Bool E) (mid new : Stepping I) → new.failed ≡ (mid.failed || false)
-    → IfErr r (λ e. mid.failed ≡ true) → IfErr r (λ e. new.failed ≡ true)
-fails_on (Ok some) mid new same failed = tt
-fails_on (Err e) mid new same failed = rw (same, failed) refl
-
--- ---- what is kept where a stepper failed as before
-
-ends_alike : {I : Type 0} (r : Next) (s t : Stepping I) → t.failed ≡ s.failed → EndsWith r s → EndsWith r t
-ends_alike None s t same ends = tt
-ends_alike (Some (Ok x)) s t same ends = tt
-ends_alike (Some (Err e)) s t same ends = same ∙ ends
-
-pub behind_alike : {I : Type 0} (r : Next) (given : Option Refused) (s t : Stepping I) → t.failed ≡ s.failed
-    → EndsBehind r given s → EndsBehind r given t
-behind_alike r None s t same behind = record { seen = ends_alike r s t same behind.seen; over = tt }
-behind_alike r (Some e) s t same behind = record {
-  seen = ends_alike r s t same behind.seen;
-  over = (behind.over.0, same ∙ behind.over.1);
-}
-
 -- ---- where calls leave the source
 
 -- what a call leaves
@@ -255,12 +221,21 @@ went left origin r s now after same seen moves =
     (origin after.stepper.scanner.cursor.input)) same
     (moves_seen left origin (Some r) now.peeked now.stepper after.stepper seen moves)
 
-pub went_ok : {V : Type 0} (r : Result V Refused) (a b c : Origin) → Goes a b → IfOk r (λ v. Goes b c)
+pub gone_ok : {V : Type 0} (r : Result V Refused) (a b : Origin) → GoesUnless (Some r) a b → IfOk r (λ v. Goes a b)
+gone_ok (Ok v) a b goes = goes
+gone_ok (Err e) a b goes = tt
+
+pub gone_err : {V : Type 0} (r : Result V Refused) (a b : Origin) → GoesUnless (Some r) a b
+    → IfErr r (λ e. GoesGiving a b)
+gone_err (Ok v) a b goes = tt
+gone_err (Err e) a b goes = goes
+
+pub went_ok : {V : Type 0} (r : Result V Refused) (a b c : Origin) → Goes a b → GoesUnless (Some r) b c
     → IfOk r (λ v. Goes a c)
 went_ok (Ok v) a b c first next = goes_on a b c first next
 went_ok (Err e) a b c first next = tt
 
-pub went_err : {V : Type 0} (r : Result V Refused) (a b c : Origin) → Goes a b → IfErr r (λ e. GoesGiving b c)
+pub went_err : {V : Type 0} (r : Result V Refused) (a b c : Origin) → Goes a b → GoesUnless (Some r) b c
     → IfErr r (λ e. GoesGiving a c)
 went_err (Ok v) a b c first next = tt
 went_err (Err e) a b c first next = giving_on a b c first next

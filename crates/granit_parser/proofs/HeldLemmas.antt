@@ -1,8 +1,6 @@
 -- A refusal that waits while the option or the number is set: it is given behind what waits, and counts as given.
-use Rattle.std.proofs.Common.{◌≡◌, ◌⊎◌, inl, inr, ℕ, Bool, true, false, ◌||◌, List, [], ◌∷◌, Option, Some}
-use Rattle.std.proofs.Common.{None, Result, Ok, Err, refl, sym, ap, subst, ◌∙◌}
-use Rattle.std.specs.Option.{option_map}
-use Rattle.std.specs.Prelude.{IfErr, IfSome, is_some}
+use Rattle.std.proofs.Common.{◌≡◌, inl, inr, ℕ, Bool, true, false, ◌||◌, List, [], ◌∷◌, Some, None, Result, Ok, Err}
+use Rattle.std.proofs.Common.{refl, sym, ap, subst, ◌∙◌}
 use Rattle.granit_base.specs.Place.{Unread}
 use Rattle.granit_base.specs.declared.place.Span.{Span}
 use Rattle.granit_error.specs.FaultKind.{NoMemory}
@@ -11,20 +9,14 @@ use Rattle.granit_error.specs.Refused.{Refused}
 use Rattle.granit_event.specs.Events.{plain_event}
 use Rattle.granit_event.specs.declared.event.Event.{Event}
 use Rattle.granit_input.specs.Origin as origins
-use Rattle.granit_input.specs.Origin.{Gave, Origin, error_given}
 use Rattle.granit_lexemes.specs.Outcome.{Fault}
 use Rattle.granit_lexemes.specs.PlainEvent.{PlainEvent, EventKind, DocumentStart, DocumentEnd, StreamEnd}
-use Rattle.granit_parser.proofs.CallLemmas.{call_going}
 use Rattle.granit_parser.proofs.ChangeLemmas.{ahead_early, seen_early}
-use Rattle.granit_parser.proofs.GoesLemmas.{noted_steps, turn_fails}
 use Rattle.granit_parser.proofs.InLemmas.{failed_at, noted_between, noted_fault, noted_over, noted_refusal, open_seen}
-use Rattle.granit_parser.proofs.SourceLemmas.{source_tells}
-use Rattle.granit_parser.specs.Holding.{FailsThere, HoldsChanged, LeadsToFault, ParserHolds, ReadsHeld, WaitsBehind}
-use Rattle.granit_parser.specs.Holding.{keeping_tags}
-use Rattle.granit_parser.specs.Parsing.{Next, Parsing, next_view}
-use Rattle.granit_parser.specs.Recovering.{CallGivesHeld, IsOpen, LookShowsHeld, ParserIn, SeenBy}
-use Rattle.granit_parser.specs.Recovering.{SeenNone, failed_in, notes_between, notes_over, unchanged}
-use Rattle.granit_parser.specs.Sources.{TellsSource, unless_failed}
+use Rattle.granit_parser.specs.Holding.{FailsThere, HoldsChanged, LeadsToFault, ParserHolds, WaitsBehind, keeping_tags}
+use Rattle.granit_parser.specs.Parsing.{Next, Parsing}
+use Rattle.granit_parser.specs.Recovering.{CallGivesHeld, IsOpen, LookShowsHeld, ParserIn, SeenBy, SeenNone, failed_in}
+use Rattle.granit_parser.specs.Recovering.{notes_between, notes_over, unchanged}
 use Rattle.granit_recovery.specs.Streams.{EarlyOf, ReachedByCalls, reached_call, reached_counting, reached_early}
 use Rattle.granit_recovery.specs.Streams.{reached_keeping}
 use Rattle.granit_restart.proofs.AheadLaws.{waits_next}
@@ -32,22 +24,15 @@ use Rattle.granit_restart.proofs.TurnwiseLaws.{failing_here}
 use Rattle.granit_restart.specs.Calls.{Calls, GivenByCall, given_by, next_call, noted}
 use Rattle.granit_restart.specs.Skipping.{with_pending}
 use Rattle.granit_restart.specs.Turned.{Turned, with_count}
-use Rattle.granit_stepper.specs.Holding.{GivesHeld, HoldsFault}
+use Rattle.granit_sourced.proofs.CallLemmas.{call_going}
+use Rattle.granit_sourced.proofs.GoesLemmas.{noted_steps, turn_fails}
+use Rattle.granit_sourced.proofs.HeldLemmas.{held_kept}
+use Rattle.granit_sourced.specs.Going.{ReadsHeld}
+use Rattle.granit_stepper.specs.Holding.{HoldsFault}
 use Rattle.granit_stepper.specs.Numbers.{RefusesNumber}
 use Rattle.granit_stepper.specs.Refusals.{FailsIn, StandsAhead, StandsRefused}
-use Rattle.granit_stepper.specs.Stepping.{Stepping, refused_kind}
+use Rattle.granit_stepper.specs.Stepping.{Stepping}
 use Rattle.granit_steps.specs.Steps.{StepState, next_event, step_turn}
-
--- ---- what the stepper gives
-
-pub held_view : {I : Type 0} (unread : I → Unread → Type 0) (r : Result (Option (Event × Span)) Refused)
-    (s : Stepping I) (m : StepState) (f : Fault) → IfErr r (λ e. s.failed ≡ true)
-    → GivesHeld unread (option_map plain_event) r s m f → ReadsHeld unread (next_view r) s m f
-held_view unread (Ok None) s m f failed given = absurd (let clash = given.2 in cc)
-held_view unread (Ok (Some x)) s m f failed given =
-    let same : given.0 ≡ plain_event x = let is = given.2 in cc in
-    (given.1, given.3 ∙ ap (λ (e : PlainEvent). e ∷ given.1) same, given.4)
-held_view unread (Err e) s m f failed given = (given.0, given.1, failed, given.2)
 
 -- what was looked at waits first
 pub seen_waits : {I : Type 0} (unread : I → Unread → Type 0) (r : Result (Event × Span) Refused) (s : Stepping I)
@@ -60,39 +45,11 @@ seen_waits unread (Err e) s m f waits = absurd waits
 module _ {I : Type 0} (unread : I → Unread → Type 0) (mid new : Stepping I) (ahead : new.ahead ≡ mid.ahead)
     (failed : new.failed ≡ (mid.failed || false))
     (refused : (m : StepState) (e : Fault) → StandsRefused unread mid m e → StandsRefused unread new m e) where
-  held_kept : (m : StepState) (f : Fault) → HoldsFault unread mid m f → HoldsFault unread new m f
-  held_kept m f h = record {
-    ahead = ahead ∙ h.ahead;
-    going = failed ∙ ap (λ b. b || false) h.going;
-    other = h.other;
-    stands = refused m f h.stands;
-  }
-
   pub behind_kept : (w : Next) (m : StepState) (f : Fault) → WaitsBehind unread w mid m f → WaitsBehind unread w new m f
-  behind_kept None m f waits = held_kept m f waits
-  behind_kept (Some (Ok x)) m f waits = (waits.0, waits.1, held_kept (with_pending waits.0 m) f waits.2)
+  behind_kept None m f waits = held_kept unread mid new ahead failed refused m f waits
+  behind_kept (Some (Ok x)) m f waits =
+      (waits.0, waits.1, held_kept unread mid new ahead failed refused (with_pending waits.0 m) f waits.2)
   behind_kept (Some (Err e)) m f waits = waits
-
-  pub waits_kept : (r : Next) (m : StepState) (f : Fault) → ReadsHeld unread r mid m f → ReadsHeld unread r new m f
-  waits_kept None m f reads = reads
-  waits_kept (Some (Ok x)) m f reads = (reads.0, reads.1, held_kept (with_pending reads.0 m) f reads.2)
-  waits_kept (Some (Err e)) m f reads =
-      (reads.0, reads.1, failed ∙ ap (λ b. b || false) reads.2, refused m f reads.3)
-
-module _ {I : Type 0} (unread : I → Unread → Type 0) (origin : I → Origin) (old mid new : Stepping I)
-    (goes : origins.Goes (origin old.scanner.cursor.input) (origin mid.scanner.cursor.input))
-    (gave : Gave (origin mid.scanner.cursor.input) (origin new.scanner.cursor.input)) where
-  pub waits_by : (error : Option Refused) (r : Next) (m : StepState) (f : Fault)
-      → option_map refused_kind error ≡ error_given (origin mid.scanner.cursor.input)
-      → IfSome error (λ e. (e.mark.place ≡ new.scanner.cursor.place) × (e.sources ≡ []))
-      → IfSome error (λ e. is_some e.mark.byte_offset ≡ (origin new.scanner.cursor.input).tells_offset)
-      → (error ≡ None → ReadsHeld unread r mid m f → ReadsHeld unread r new m f) → ReadsHeld unread r mid m f
-      → ReadsHeld unread (unless_failed r error) new m f
-      ⊎ TellsSource origin (unless_failed r error) new.scanner.cursor
-  waits_by None r m f is placed told on reads = inl (on refl reads)
-  waits_by (Some e) r m f is placed told on reads = inr (source_tells (origin old.scanner.cursor.input)
-      (origin mid.scanner.cursor.input) (origin new.scanner.cursor.input) goes gave e new.scanner.cursor.place is
-      placed.0 placed.1 told)
 
 -- ---- why it waits, behind an event that waited
 

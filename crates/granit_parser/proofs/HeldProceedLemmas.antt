@@ -1,6 +1,6 @@
 -- Recovery where a refusal waits, by the branches of the code.
-use Rattle.std.proofs.Common.{◌≡◌, ◌⊎◌, inl, inr, ℕ, suc, ◌+◌, Bool, true, false, not, is_some, []}
-use Rattle.std.proofs.Common.{Option, Some, None, Result, Ok, Err, refl, sym, ap, subst, ◌∙◌, arith}
+use Rattle.std.proofs.Common.{◌≡◌, ◌⊎◌, inl, inr, ℕ, suc, ◌+◌, Bool, true, false, not, is_some, [], Option, Some, None}
+use Rattle.std.proofs.Common.{Result, Ok, Err, refl, sym, ap, subst, ◌∙◌, arith}
 use Rattle.std.specs.Prelude.{IfErr, IfOk}
 use Rattle.granit_base.specs.Place.{Mark, Unread}
 use Rattle.granit_cursor.specs.Reading.{GoesOnward}
@@ -20,11 +20,8 @@ use Rattle.granit_parser.specs.Holding.{held_room, keeping_tags, stays_seen}
 use Rattle.granit_parser.specs.Parsing.{Next, Parsing}
 use Rattle.granit_parser.specs.Recovering.{AsksBy, EndsHeldBy, EndsHeld, Follows, GaveUp, IsOpen, LookShowsHeld}
 use Rattle.granit_parser.specs.Recovering.{ParserIn, Proceeds, ProceedsHeld, ProceedsHeldBy, ProceedsHeldNext}
-use Rattle.granit_seen.specs.Seeing.{seen_kind}
-use Rattle.granit_parser.specs.Recovering.{ProceedsHeldShown, SeenBy, SkipsWaiting, failed_in, seen_in}
-use Rattle.granit_seen.specs.Seeing.{seen_tells_document}
-use Rattle.granit_parser.specs.Recovering.{stays_by}
-use Rattle.granit_parser.specs.Sources.{TellsSource}
+use Rattle.granit_parser.specs.Recovering.{ProceedsHeldShown, SeenBy, SkipsWaiting, failed_in, seen_in, stays_by}
+use Rattle.granit_seen.specs.Seeing.{seen_kind, seen_tells_document}
 use Rattle.granit_seen.specs.declared.seen.Seen.TheVariants as seens
 use Rattle.granit_recovery.specs.Streams.{ReachedByCalls}
 use Rattle.granit_restart.specs.Calls.{Calls}
@@ -32,6 +29,7 @@ use Rattle.granit_restart.specs.Looking.{told_by, told_event}
 use Rattle.granit_restart.specs.Recovery.{comment_count, recovery_answer, resumed}
 use Rattle.granit_restart.specs.Skipping.{Ended, Failed, SkipEnd, Stops, with_pending}
 use Rattle.granit_restart.specs.Turned.{with_count}
+use Rattle.granit_sourced.specs.Sources.{TellsSource}
 use Rattle.granit_stepper.specs.Holding.{HoldsFault, held_follows, told_or_refused}
 use Rattle.granit_stepper.specs.Numbers.{RefusesNumber}
 use Rattle.granit_stepper.specs.Stepping.{Stepping}

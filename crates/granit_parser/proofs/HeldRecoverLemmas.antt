@@ -1,6 +1,6 @@
 -- Recovery where a refusal waits, and the option or the number was set since it was met.
-use Rattle.std.proofs.Common.{◌≡◌, ◌⊎◌, inl, inr, ℕ, Bool, true, false, not, ◌&&◌, is_some, List, [], ◌∷◌}
-use Rattle.std.proofs.Common.{Option, Some, None, Result, Ok, Err, refl, sym, ap, subst, ◌∙◌}
+use Rattle.std.proofs.Common.{◌≡◌, ◌⊎◌, inl, inr, ℕ, Bool, true, false, not, ◌&&◌, is_some, List, [], ◌∷◌, Option, Some}
+use Rattle.std.proofs.Common.{None, Result, Ok, Err, refl, sym, ap, subst, ◌∙◌}
 use Rattle.std.specs.Prelude.{OnOk, if◌then◌else◌}
 use Rattle.granit_base.specs.Place.{Unread}
 use Rattle.granit_cursor.specs.Reading.{Reading}
@@ -8,17 +8,14 @@ use Rattle.granit_error.specs.OptionsData.{OptionsData}
 use Rattle.granit_event.specs.Events.{plain_event}
 use Rattle.granit_lexemes.specs.Outcome.{Fault}
 use Rattle.granit_lexemes.specs.PlainEvent.{Comment, DocumentEnd, DocumentStart, EventKind, PlainEvent, StreamEnd}
-use Rattle.granit_parser.proofs.CallLemmas.{ends}
 use Rattle.granit_parser.proofs.DropLemmas.{GoByTurns, TellsHere, TellsLooked, ends_is, ends_not, fault_asks}
-use Rattle.granit_parser.proofs.GoesLemmas.{noted_steps}
 use Rattle.granit_parser.proofs.HeldLemmas.{event_called, fails_reached}
 use Rattle.granit_parser.proofs.RecoverLemmas.{looked, starts_fault, starts_over, starts_steps, unlooked}
-use Rattle.granit_parser.specs.Holding.{FailsThere, FaultLacksNumber, MetFault, WaitsBehind, held_behind}
-use Rattle.granit_parser.specs.Holding.{held_room, keeping_tags, looked_comment}
+use Rattle.granit_parser.specs.Holding.{FailsThere, FaultLacksNumber, MetFault, WaitsBehind, held_behind, held_room}
+use Rattle.granit_parser.specs.Holding.{keeping_tags, looked_comment}
 use Rattle.granit_parser.specs.Parsing.{Next, Parsing}
-use Rattle.granit_parser.specs.Recovering.{AsksBy, IsOpen, SkipsToAsk, SkipsWaiting, failed_in, seen_in}
+use Rattle.granit_parser.specs.Recovering.{AsksBy, IsOpen, SkipsToAsk, SkipsWaiting, failed_in, seen_in, stays_by}
 use Rattle.granit_seen.specs.Seeing.{seen_ends_document, seen_kind, seen_starts_document}
-use Rattle.granit_parser.specs.Recovering.{stays_by}
 use Rattle.granit_seen.specs.declared.seen.Seen.TheVariants as seens
 use Rattle.granit_recovery.specs.Asking.{LookTells}
 use Rattle.granit_recovery.specs.Streams.{ReachedByCalls, reached_call, reached_counting, reached_keeping}
@@ -35,6 +32,8 @@ use Rattle.granit_restart.specs.Skipping.{Ahead, AtStreamEnd, BehindDocument, En
 use Rattle.granit_restart.specs.Skipping.{ahead, ahead_by, ends_before, skip_ahead, skip_by_turns, skip_fault, skip_in}
 use Rattle.granit_restart.specs.Skipping.{skip_turn, skipped_to, with_pending}
 use Rattle.granit_restart.specs.Turned.{Turned, turned_counting, turned_keeping, with_count}
+use Rattle.granit_sourced.proofs.CallLemmas.{ends}
+use Rattle.granit_sourced.proofs.GoesLemmas.{noted_steps}
 use Rattle.granit_stepper.specs.Holding.{HoldsFault, SkipsHeld, held_follows, held_skip, told_or_refused}
 use Rattle.granit_stepper.specs.Recovering.{SkipsFault}
 use Rattle.granit_stepper.specs.Refusals.{FailsIn}

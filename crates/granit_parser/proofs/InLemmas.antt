@@ -1,12 +1,10 @@
 -- A parser is where the machine's calls led: what calls give there, and where they leave it.
-use Rattle.std.proofs.Common.{◌≡◌, ◌⊎◌, inl, inr, ℕ, Bool, true, false, not, ◌||◌, is_some, List, [], ◌∷◌}
-use Rattle.std.proofs.Common.{Option, Some, None}
-use Rattle.std.proofs.Common.{Result, Ok, Err, refl, sym, ap, subst, ◌∙◌}
+use Rattle.std.proofs.Common.{◌≡◌, ◌⊎◌, inl, inr, ℕ, Bool, true, false, not, ◌||◌, is_some, Option, Some, None, Result}
+use Rattle.std.proofs.Common.{Ok, Err, refl, sym, ap, subst, ◌∙◌}
 use Rattle.std.specs.Prelude.{IfSome}
 use Rattle.granit_base.specs.Place.{Unread}
 use Rattle.granit_base.specs.declared.place.Span.{Span}
 use Rattle.granit_cursor.specs.Reading.{GoesOnward, Reading}
-use Rattle.granit_error.specs.FaultKind.{NoMemory}
 use Rattle.granit_error.specs.OptionsData.{OptionsData}
 use Rattle.granit_error.specs.Refused.{Refused}
 use Rattle.granit_event.specs.declared.event.Event.{Event}
@@ -15,20 +13,20 @@ use Rattle.granit_input.specs.Origin.{Origin}
 use Rattle.granit_lexemes.specs.Here.{Here}
 use Rattle.granit_lexemes.specs.Outcome.{Fault}
 use Rattle.granit_lexemes.specs.PlainEvent.{PlainEvent, EventKind, DocumentStart, DocumentEnd, StreamEnd}
-use Rattle.granit_parser.proofs.CallLemmas.{call_going}
 use Rattle.granit_parser.specs.Holding.{ParserHolds, WaitsBehind}
-use Rattle.granit_parser.specs.Parsing.{EndsWith, GivesNext, IsOver, KeepsGiven, Next, Parsing, ParserPeeksAs, Starves}
-use Rattle.granit_parser.specs.Parsing.{ShowsNext, StandsBefore, notes_answered}
-use Rattle.granit_parser.specs.Recovering.{AnswersBy, Failed, FailsAt, GaveUp, GivesCall, GoesWithCalls, IsClosed}
-use Rattle.granit_parser.specs.Recovering.{IsOpen, ParserIn, ReadsNext, SeenBy, SeenNext, SeenNone, SeenOrFails}
-use Rattle.granit_parser.specs.Recovering.{ShowsCall}
-use Rattle.granit_parser.specs.Recovering.{LookShowsHeld, between_behind, failed_in, notes_between, notes_over, PeeksIn}
-use Rattle.granit_parser.specs.Recovering.{over_behind}
-use Rattle.granit_parser.specs.Sources.{IfUnseen, MovesUnless, NeverRecovers, TellsError, TellsSource}
-use Rattle.granit_parser.specs.Waiting.{GivesAtOnce}
+use Rattle.granit_parser.specs.Parsing.{IsOver, KeepsGiven, Next, Parsing, ParserPeeksAs, Starves, ShowsNext}
+use Rattle.granit_parser.specs.Parsing.{StandsBefore, notes_answered}
+use Rattle.granit_parser.specs.Recovering.{AnswersBy, GaveUp, GivesCall, IsClosed, IsOpen, ParserIn, SeenBy, SeenNone}
+use Rattle.granit_parser.specs.Recovering.{SeenOrFails, ShowsCall, LookShowsHeld, between_behind, failed_in}
+use Rattle.granit_parser.specs.Recovering.{notes_between, notes_over, PeeksIn, over_behind}
 use Rattle.granit_recovery.specs.Streams.{ReachedByCalls, calls_from}
 use Rattle.granit_restart.specs.Ahead.{not_ahead}
 use Rattle.granit_restart.specs.Calls.{Calls, given_by, next_call, noted}
+use Rattle.granit_sourced.proofs.CallLemmas.{call_going}
+use Rattle.granit_sourced.specs.Giving.{EndsWith, GivesNext}
+use Rattle.granit_sourced.specs.Going.{Failed, GoesWithCalls, ReadsNext}
+use Rattle.granit_sourced.specs.Sources.{IfUnseen, MovesUnless, NeverRecovers, TellsError, TellsSource}
+use Rattle.granit_sourced.specs.Waiting.{GivesAtOnce}
 use Rattle.granit_stepper.specs.Stepping.{StandsIn, Stepping}
 use Rattle.granit_steps.specs.Steps.{StepState, next_event, start_from}
 

@@ -12,15 +12,13 @@ use Rattle.granit_event.specs.Events.{plain_event, plain_events}
 use Rattle.granit_input.specs.Origin.{Origin}
 use Rattle.granit_lexemes.specs.Outcome.{Fault}
 use Rattle.granit_lexemes.specs.PlainEvent.{EventKind, DocumentEnd, DocumentStart, PlainEvent, StreamEnd}
-use Rattle.granit_parser.proofs.CallLemmas.{call_going}
 use Rattle.granit_parser.proofs.DropLemmas.{seen_going}
 use Rattle.granit_parser.proofs.FirstLemmas.{is_scan, scan_or}
 use Rattle.granit_parser.proofs.InLemmas.{noted_fault, noted_refusal, open_seen}
 use Rattle.granit_parser.proofs.SendLemmas.{both}
 use Rattle.granit_parser.specs.Parsing.{IsOver, Next, Parsing}
 use Rattle.granit_parser.specs.Receiving.{CallsFailed, CallsLeave, CallsLed, EndsSending, FirstCall, NoneLast, scanned}
-use Rattle.granit_parser.specs.Recovering.{FailsAt, GivesCall, IsOpen, ParserIn}
-use Rattle.granit_parser.specs.Sources.{TellsSource}
+use Rattle.granit_parser.specs.Recovering.{GivesCall, IsOpen, ParserIn}
 use Rattle.granit_receivers.proofs.TakingLemmas.{took_more, took_none}
 use Rattle.granit_receivers.specs.Sending.{is_last}
 use Rattle.granit_receivers.specs.Taking.{Told, Took}
@@ -28,6 +26,9 @@ use Rattle.granit_receivers.specs.declared.error.TryLoadError.{TryLoadError}
 use Rattle.granit_receivers.specs.declared.error.TryLoadError.TheVariants.{Scan, Receiver}
 use Rattle.granit_recovery.specs.Streams.{CallsGive, ReachedByCalls, gives_next, gives_none, reached_call}
 use Rattle.granit_restart.specs.Calls.{Calls, GivenByCall, given_by, next_call, noted}
+use Rattle.granit_sourced.proofs.CallLemmas.{call_going}
+use Rattle.granit_sourced.specs.Going.{FailsAt}
+use Rattle.granit_sourced.specs.Sources.{TellsSource}
 use Rattle.granit_steps.specs.Steps.{StepState, next_event}
 
 -- ---- in the machine

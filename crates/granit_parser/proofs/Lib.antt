@@ -1,13 +1,10 @@
 pub mod AloneLemmas
 pub mod AnswerLemmas
-pub mod AtOnceLemmas
-pub mod CallLemmas
 mod ChangeLemmas
 pub mod DropLemmas
 pub mod DroppedLemmas
 pub mod FirstLemmas
 pub mod GatherLemmas
-pub mod GoesLemmas
 pub mod HeldLemmas
 pub mod HeldProceedLemmas
 pub mod HeldRecoverLemmas

@@ -1,6 +1,6 @@
 -- Why calls that give many events tell the error of the source exactly where one was met.
-use Rattle.std.proofs.Common.{◌≡◌, ℕ, Bool, true, false, true≢false, Option, Some, None, Result, Ok, Err}
-use Rattle.std.proofs.Common.{refl, sym, ap, subst, ◌∙◌}
+use Rattle.std.proofs.Common.{◌≡◌, ℕ, Bool, true, false, true≢false, Option, Some, None, Result, Ok, Err, refl, sym, ap}
+use Rattle.std.proofs.Common.{subst, ◌∙◌}
 use Rattle.std.specs.Result.{IsErrAnd}
 use Rattle.granit_base.specs.declared.place.Span.{Span}
 use Rattle.granit_base.specs.Place.{Unread}
@@ -12,9 +12,9 @@ use Rattle.granit_input.specs.Origin.{Origin}
 use Rattle.granit_parser.proofs.FirstLemmas.{is_scan, scan_or}
 use Rattle.granit_parser.specs.Parsing.{IsOver, Next, Parsing}
 use Rattle.granit_parser.specs.Receiving.{scanned}
-use Rattle.granit_parser.specs.Sources.{IfUnseen, MovesUnless, TellsError, TellsMet, TellsSource}
 use Rattle.granit_receivers.specs.declared.error.TryLoadError.{TryLoadError}
 use Rattle.granit_receivers.specs.declared.error.TryLoadError.TheVariants.{Scan, Receiver}
+use Rattle.granit_sourced.specs.Sources.{IfUnseen, MovesUnless, TellsError, TellsMet, TellsSource}
 use Rattle.granit_stepper.specs.Stepping.{Stepping}
 
 none_but : {A : Type 0} (o : Option A) → ((a : A) → o ≡ Some a → ⊥) → o ≡ None

@@ -1,6 +1,6 @@
 -- Recovery where it told of a document and nothing was given since: the next event is looked at first.
-use Rattle.std.proofs.Common.{◌≡◌, ◌⊎◌, inl, inr, Bool, true, false, is_some, Option, Some, None, Result, Ok, Err}
-use Rattle.std.proofs.Common.{refl, sym, ap, subst, ◌∙◌, not}
+use Rattle.std.proofs.Common.{◌≡◌, ◌⊎◌, inl, inr, Bool, true, false, is_some, Option, Some, None, Result, Ok, Err, refl}
+use Rattle.std.proofs.Common.{sym, ap, subst, ◌∙◌, not}
 use Rattle.std.specs.Prelude.{IfOk}
 use Rattle.granit_base.specs.Place.{Unread}
 use Rattle.granit_base.specs.declared.place.Span.{Span}
@@ -10,17 +10,19 @@ use Rattle.granit_error.specs.OptionsData.{OptionsData}
 use Rattle.granit_error.specs.Refused.{Refused, UnlessMemory}
 use Rattle.granit_event.specs.declared.event.Event.{Event}
 use Rattle.granit_input.specs.Origin.{Origin}
-use Rattle.granit_parser.proofs.CallLemmas.{call_going}
 use Rattle.granit_parser.proofs.DropLemmas.{seen_going}
 use Rattle.granit_parser.proofs.InLemmas.{call_shows, open_seen, OpenGives, never_none}
-use Rattle.granit_parser.specs.Parsing.{EndsBehind, EndsWith, Next, Parsing}
-use Rattle.granit_parser.specs.Recovering.{comes_ahead, comes_here, FailsAt, failed_in, GivesSeen, GoesWithCalls}
-use Rattle.granit_parser.specs.Recovering.{IsNoted, IsOpen, MeetsNumber, ParserIn, Proceeds, ProceedsNext}
-use Rattle.granit_parser.specs.Recovering.{ProceedsShown, ReadsNext, SeenBy, ShowsFirst, StarvedLook}
-use Rattle.granit_parser.specs.Sources.{NeverRevives, TellsSource}
+use Rattle.granit_parser.specs.Parsing.{EndsBehind, Next, Parsing}
+use Rattle.granit_parser.specs.Recovering.{comes_ahead, comes_here, failed_in, GivesSeen, IsNoted, IsOpen, MeetsNumber}
+use Rattle.granit_parser.specs.Recovering.{ParserIn, Proceeds, ProceedsNext, ProceedsShown, SeenBy, ShowsFirst}
+use Rattle.granit_parser.specs.Recovering.{StarvedLook}
 use Rattle.granit_recovery.specs.Streams.{ReachedByCalls, reached_call}
 use Rattle.granit_restart.specs.Ahead.{AheadOf}
 use Rattle.granit_restart.specs.Calls.{Calls, failing, given_by}
+use Rattle.granit_sourced.proofs.CallLemmas.{call_going}
+use Rattle.granit_sourced.specs.Giving.{EndsWith}
+use Rattle.granit_sourced.specs.Going.{FailsAt, GoesWithCalls, ReadsNext}
+use Rattle.granit_sourced.specs.Sources.{NeverRevives, TellsSource}
 use Rattle.granit_stepper.specs.Numbers.{RefusesNumber}
 use Rattle.granit_stepper.specs.Stepping.{Stepping}
 use Rattle.granit_steps.specs.Steps.{StepState, next_event}

@@ -13,16 +13,15 @@ use Rattle.granit_parser.proofs.InLemmas.{goes_in}
 use Rattle.granit_parser.proofs.RecoverLemmas.{any_stops}
 use Rattle.granit_parser.specs.Parsing.{Parsing}
 use Rattle.granit_seen.specs.Seeing as seeing
-use Rattle.granit_parser.specs.Recovering.{AnswersBy, AnswersIn, AsksBy, Ends, Follows, GaveUp, IsOpen, MeetsNumber}
-use Rattle.granit_parser.specs.Recovering.{ParserIn, Proceeds, RecoveryLeaves, SeenBy, SkipsToAsk, SeenOrFails, StopsIn}
-use Rattle.granit_parser.specs.Recovering.{seen_in}
-use Rattle.granit_parser.specs.Sources.{TellsSource}
+use Rattle.granit_parser.specs.Recovering.{AnswersBy, AnswersIn, AsksBy, Ends, Follows, GaveUp, MeetsNumber, ParserIn}
+use Rattle.granit_parser.specs.Recovering.{Proceeds, SeenBy, SkipsToAsk, SeenOrFails, StopsIn}
 use Rattle.granit_seen.specs.declared.seen.Seen.{Seen}
 use Rattle.granit_seen.specs.declared.seen.Seen.TheVariants as seens
 use Rattle.granit_receivers.specs.Kept.{GivesAgain, IsKept}
 use Rattle.granit_restart.specs.Calls.{Calls}
 use Rattle.granit_restart.specs.Recovery.{recover, recover_with, recovery_answer, resumed}
 use Rattle.granit_restart.specs.Skipping.{Stops}
+use Rattle.granit_sourced.specs.Sources.{TellsSource}
 
 pub is_end : (s : Seen) → seeing.ends_stream s ≡ true → s ≡ seens.StreamEnd
 is_end seens.StreamEnd e = refl

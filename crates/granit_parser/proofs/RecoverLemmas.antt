@@ -1,25 +1,23 @@
 -- What recovery makes of a parser that is where the machine's calls led.
-use Rattle.std.proofs.Common.{◌≡◌, ◌⊎◌, inl, inr, ℕ, Bool, true, false, ◌||◌, is_some, List, [], ◌∷◌}
-use Rattle.std.proofs.Common.{Option, Some, None, Result, Ok, Err, refl, sym, ap, subst, ◌∙◌}
+use Rattle.std.proofs.Common.{◌≡◌, ◌⊎◌, inl, inr, ℕ, Bool, true, false, ◌||◌, is_some, List, [], ◌∷◌, Option, Some}
+use Rattle.std.proofs.Common.{None, Result, Ok, Err, refl, sym, ap, subst, ◌∙◌}
 use Rattle.std.specs.Prelude.{if◌then◌else◌}
 use Rattle.granit_error.specs.OptionsData.{OptionsData}
 use Rattle.granit_lexemes.specs.Onward as onward
 use Rattle.granit_lexemes.specs.Outcome.{Fault}
 use Rattle.granit_lexemes.specs.PlainEvent.{PlainEvent, EventKind, DocumentStart, StreamEnd, Comment}
-use Rattle.granit_parser.proofs.CallLemmas.{Comes, call_going, comes_on}
-use Rattle.granit_parser.proofs.CallLemmas.{waits}
 use Rattle.granit_parser.specs.Recovering.{StopsDropping}
 use Rattle.granit_restart.proofs.LookTurns as look_turns
 use Rattle.granit_restart.specs.Ahead.{is_note}
 use Rattle.granit_restart.specs.Calls.{Calls, GivenByCall, given_by, next_call, noted}
 use Rattle.granit_restart.specs.Header.{is_directives}
-use Rattle.granit_restart.specs.Looking.{Look, behind_waiting, look_ahead, look_behind}
-use Rattle.granit_restart.specs.Looking.{told_by, told_event, turn_ahead}
+use Rattle.granit_restart.specs.Looking.{Look, behind_waiting, look_ahead, look_behind, told_by, told_event, turn_ahead}
 use Rattle.granit_restart.specs.Recovery.{comment_count, extra_of, looked_by, recover, recover_with, recovered}
 use Rattle.granit_restart.specs.Recovery.{recovery_answer, resumed, skipped, skipped_by, starts_by}
 use Rattle.granit_restart.specs.Restart.{behind_fault}
 use Rattle.granit_restart.specs.Skipping.{Ended, Failed, SkipEnd, Stops, skip_by_turns, skipped_document, skipped_fault}
 use Rattle.granit_restart.specs.Skipping.{with_pending}
+use Rattle.granit_sourced.proofs.CallLemmas.{Comes, call_going, comes_on, waits}
 use Rattle.granit_stepper.proofs.FaultLemmas.{no_stop, stops_nowhere}
 use Rattle.granit_steps.specs.Steps.{StepState, next_event, step_turn}
 

@@ -1,6 +1,5 @@
 -- Behind a recovery from a fault calls give what the text tells that is left.
-use Rattle.std.proofs.Common.{◌≡◌, Bool, List, [], ◌∷◌, ◌++◌, Option, Some, None, Result, Ok, Err, inl, inr}
-use Rattle.std.proofs.Common.{ap, subst, ◌∙◌}
+use Rattle.std.proofs.Common.{◌≡◌, Bool, List, [], ◌∷◌, ◌++◌, Some, None, Result, Ok, Err, inl, inr, ap, subst, ◌∙◌}
 use Rattle.granit_alone.proofs.CallSteps.{goes_by}
 use Rattle.granit_alone.proofs.FaultLaws.{recovery_gives}
 use Rattle.granit_alone.specs.Behind.{GivesOn, IsOpen}
@@ -9,13 +8,13 @@ use Rattle.granit_error.specs.OptionsData.{OptionsData}
 use Rattle.granit_event.specs.Events.{plain_event}
 use Rattle.granit_lexemes.specs.PlainEvent.{PlainEvent}
 use Rattle.granit_parser.specs.Parsing.{Next, Parsing}
-use Rattle.granit_parser.specs.Recovering.{FailsAt, GivesCall}
+use Rattle.granit_parser.specs.Recovering.{GivesCall}
 use Rattle.granit_parser.specs.Resuming.{Resumed, ResumesCall}
 use Rattle.granit_recovery.specs.Streams.{CallsGive, gives_next, gives_none, ReachedByCalls, reached_call}
 use Rattle.granit_recovery.specs.Streams.{reached_recovery}
 use Rattle.granit_restart.specs.Calls.{Calls, GivenByCall, given_by, next_call}
-use Rattle.granit_restart.specs.Recovery.{recover}
 use Rattle.granit_restart.specs.Skipping.{Stops}
+use Rattle.granit_sourced.specs.Going.{FailsAt}
 
 call_reached : (o : OptionsData) (c after : Calls) (e : PlainEvent)
     → next_call o c ≡ (Some (Ok e), after) → ReachedByCalls o c

@@ -1,6 +1,5 @@
 -- Events that are sent one behind the other.
-use Rattle.std.proofs.Common.{◌≡◌, Bool, true, false, List, [], ◌∷◌, ◌++◌, Some, None, Ok, Err, sym}
-use Rattle.std.proofs.Common.{◌⊎◌, inl, subst}
+use Rattle.std.proofs.Common.{◌≡◌, Bool, true, false, List, [], ◌∷◌, ◌++◌, Some, None, Ok, Err, sym, ◌⊎◌, inl, subst}
 use Rattle.std.proofs.lemmas.List.{append-nil, map-append}
 use Rattle.granit_base.specs.Place.{Unread, Mark}
 use Rattle.granit_base.specs.declared.place.Span.{Span}
@@ -12,13 +11,14 @@ use Rattle.granit_event.specs.Events.{plain_event, plain_events}
 use Rattle.granit_input.specs.Origin.{Origin}
 use Rattle.granit_lexemes.specs.PlainEvent.{PlainEvent}
 use Rattle.granit_parser.proofs.SourceLemmas.{never_told}
-use Rattle.granit_parser.specs.Parsing.{GivesNext, Next, Parsing, StandsAt}
+use Rattle.granit_parser.specs.Parsing.{Next, Parsing, StandsAt}
 use Rattle.granit_parser.specs.Receiving.{SendsOn, none_sent, sent_on, Sends, none_left, sends_last, sends_on}
-use Rattle.granit_receivers.specs.Sending.{is_last}
-use Rattle.granit_parser.specs.Sources.{TellsSource}
 use Rattle.granit_parser.specs.Receiving.{SendsUpTo, up_to_this, StandsBehindSent, RefusesBehind, RefusalIn}
+use Rattle.granit_receivers.specs.Sending.{is_last}
 use Rattle.granit_receivers.proofs.TakingLemmas.{took_none, took_more}
 use Rattle.granit_receivers.specs.Taking.{Told, Took}
+use Rattle.granit_sourced.specs.Giving.{GivesNext}
+use Rattle.granit_sourced.specs.Sources.{TellsSource}
 use Rattle.granit_steps.specs.Steps.{StepState, next_event}
 
 -- ---- in the machine

@@ -1,6 +1,6 @@
 -- What the calls give one by one from any beginning is what the run from there answers.
-use Rattle.std.proofs.Common.{◌≡◌, ℕ, zero, suc, ◌<◌, List, [], ◌∷◌, Option, Some, None, Result, Ok, Err}
-use Rattle.std.proofs.Common.{refl, sym, ap, subst, ◌∙◌, inl, inr, Bool, arith}
+use Rattle.std.proofs.Common.{◌≡◌, ℕ, zero, suc, ◌<◌, List, [], ◌∷◌, Option, Some, None, Result, Ok, Err, refl, sym, ap}
+use Rattle.std.proofs.Common.{subst, ◌∙◌, inl, inr, Bool, arith}
 use Rattle.std.proofs.lemmas.List.{append-nil}
 use Rattle.granit_base.specs.Place.{Mark}
 use Rattle.granit_error.specs.OptionsData.{OptionsData}
@@ -15,15 +15,15 @@ use Rattle.granit_machine.specs.Lexing.{FlaggedItem, flagged, lex_start, lex}
 use Rattle.granit_machine.specs.Machine.{asked_items, feed_all, settled, run_answer, run_from}
 use Rattle.granit_machine.specs.Parser.{next_line, feed}
 use Rattle.granit_machine.specs.Reader.{LexState}
-use Rattle.granit_steps.specs.Steps.{StepState, Turn, first_pending, next_event, settle, start_from}
-use Rattle.granit_steps.specs.Steps.{step_size, step_turn}
+use Rattle.granit_sourced.specs.Giving.{GivesNext}
+use Rattle.granit_steps.specs.Steps.{StepState, Turn, first_pending, next_event, settle, start_from, step_size}
+use Rattle.granit_steps.specs.Steps.{step_turn}
 use Rattle.granit_steps.specs.Told.{EventsTold, GivesEvents, answer, before_told, fed, gives_end, gives_event}
 use Rattle.granit_steps.specs.Told.{gives_fault, parsers_items, told_behind, told_from, told_read}
 use Rattle.granit_event.specs.Events.{plain_event}
-use Rattle.granit_parser.specs.Parsing.{EndsTold, GivesNext, LeadsTo, Next, first_given, none_given}
+use Rattle.granit_parser.specs.Parsing.{EndsTold, LeadsTo, Next, first_given, none_given}
 use Rattle.granit_steps.proofs.Chains.{LexChain, pieces_chain}
-use Rattle.granit_steps.proofs.Futures.{IsReady, IsStill, TurnKeeps, future, future_of, read_out, rest_of}
-use Rattle.granit_steps.proofs.Futures.{turn_keeps}
+use Rattle.granit_steps.proofs.Futures.{IsReady, IsStill, TurnKeeps, future, future_of, read_out, rest_of, turn_keeps}
 use Rattle.granit_steps.proofs.Queues.{pushed_asked}
 
 module _ (o : OptionsData) where

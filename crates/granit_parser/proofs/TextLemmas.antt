@@ -13,8 +13,9 @@ use Rattle.granit_error.specs.Refused.{Refused}
 use Rattle.granit_lexemes.specs.Outcome.{Fault, Fails}
 use Rattle.granit_lexemes.specs.PlainEvent.{PlainEvent}
 use Rattle.granit_machine.specs.Machine.{run}
-use Rattle.granit_parser.specs.Parsing.{Next, GivesNext, EndsText, LeadsTo, none_given, first_given}
+use Rattle.granit_parser.specs.Parsing.{Next, EndsText, LeadsTo, none_given, first_given}
 use Rattle.granit_reading.proofs.ParserSources.{run_none}
+use Rattle.granit_sourced.specs.Giving.{GivesNext}
 use Rattle.granit_steps.specs.Levels.{BeginsStream, stream_levels}
 use Rattle.granit_steps.specs.Steps.{StepState, next_event, steps_start}
 use Rattle.granit_steps.specs.Told.{GivesEvents, gives_end, gives_event, gives_fault, told_of}

@@ -9,6 +9,7 @@ use Rattle.granit_lexemes.specs.PlainEvent.{PlainEvent}
 use Rattle.granit_parser.specs.Parsing.{LeadsTo, Parsing, StandsAt}
 use Rattle.granit_parser.specs.Receiving.{RefusalIn}
 use Rattle.granit_restart.specs.Skipping.{with_pending}
+pub use Rattle.granit_sourced.specs.Sources.{GoesGiving, IsSourceError}
 use Rattle.granit_stepper.specs.Stepping.{Stepping, StandsIn}
 use Rattle.granit_steps.specs.Steps.{StepState, next_event}
 

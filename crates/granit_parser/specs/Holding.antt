@@ -1,6 +1,7 @@
 -- A parser between its calls where a refusal waits, and the option or the number was set since it was met.
 use Rattle.std.specs.Prelude.{◌≡◌, ◌⊎◌, ◌+◌, ℕ, Bool, true, false, if◌then◌else◌, List, [], ◌∷◌, Some, None, Ok, Err}
 use Rattle.granit_base.specs.Place.{Unread}
+pub use Rattle.granit_chains.specs.Chains.{keeping_tags}
 use Rattle.granit_error.specs.OptionsData.{OptionsData}
 use Rattle.granit_event.specs.Events.{plain_event}
 use Rattle.granit_lexemes.specs.Outcome.{Fault}
@@ -13,12 +14,9 @@ use Rattle.granit_restart.specs.Skipping.{Ended, SkipEnd, with_pending}
 use Rattle.granit_restart.specs.Turned.{with_count}
 use Rattle.granit_stepper.specs.Holding.{HoldsFault, held_skip}
 use Rattle.granit_stepper.specs.Numbers.{RefusesNumber}
-use Rattle.granit_stepper.specs.Refusals.{FailsIn, StandsRefused}
+use Rattle.granit_stepper.specs.Refusals.{FailsIn}
 use Rattle.granit_stepper.specs.Stepping.{Stepping}
 use Rattle.granit_steps.specs.Steps.{StepState}
-
-abbrev pub keeping_tags : Bool → OptionsData → OptionsData
-keeping_tags keep o = record o { keep_tags = keep }
 
 -- ---- what waits
 
@@ -28,14 +26,6 @@ WaitsBehind unread None s m f = HoldsFault unread s m f
 WaitsBehind unread (Some (Ok x)) s m f =
     (es : List PlainEvent) × (m.pending ≡ plain_event x ∷ es) × HoldsFault unread s (with_pending es m) f
 WaitsBehind unread (Some (Err e)) s m f = ⊥
-
--- what a read gives: the first of what waits, or the refusal, where nothing does
-abbrev pub ReadsHeld : {I : Type 0} → (I → Unread → Type 0) → Next → Stepping I → StepState → Fault → Type 0
-ReadsHeld unread None s m f = ⊥
-ReadsHeld unread (Some (Ok x)) s m f =
-    (es : List PlainEvent) × (m.pending ≡ plain_event x ∷ es) × HoldsFault unread s (with_pending es m) f
-ReadsHeld unread (Some (Err e)) s m f =
-    (m.pending ≡ []) × (e ≡ f) × (s.failed ≡ true) × StandsRefused unread s m f
 
 -- ---- why it waits
 

@@ -6,6 +6,4 @@ pub mod Parsing
 pub mod Receiving
 pub mod Recovering
 pub mod Resuming
-pub mod Sources
 pub mod Streams
-pub mod Waiting

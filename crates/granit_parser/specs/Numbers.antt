@@ -1,7 +1,9 @@
 -- The number that a parser's next anchor gets.
 use Rattle.std.specs.Prelude.{ℕ, ◌-◌, ◌^◌, min, suc}
 use Rattle.granit_parser.specs.Parsing.{Parsing}
+pub use Rattle.granit_stepper.specs.Numbers.{NoNumberLeft}
 use Rattle.granit_stepper.specs.Offset.{renumbered_by}
+pub use Rattle.granit_stepper.specs.Offset.{with_offset}
 
 -- one more than the number of the last anchor, held at the greatest number of 64 bits
 abbrev pub next_number : {I : Type 0} → Parsing I → ℕ

@@ -1,6 +1,6 @@
 -- What contracts see of a parser, and what its calls give.
-use Rattle.std.specs.Prelude.{◌≡◌, ◌⊎◌, ℕ, Bool, true, false, List, [], ◌∷◌, ◌++◌, Option, Some, None, Result, Ok, Err}
-use Rattle.std.specs.Prelude.{◌<◌, IfErr, IfSome}
+use Rattle.std.specs.Prelude.{◌≡◌, ◌⊎◌, ℕ, Bool, true, false, List, [], ◌∷◌, ◌++◌, Option, Some, None, Ok, Err, ◌<◌}
+use Rattle.std.specs.Prelude.{IfSome}
 use Rattle.granit_base.specs.Counts.{last_count}
 use Rattle.granit_base.specs.Place.{Unread}
 use Rattle.granit_before.specs.DeclaredCause.{DeclaredCause}
@@ -12,23 +12,17 @@ use Rattle.granit_error.specs.Refused.{Refused}
 use Rattle.granit_event.specs.Events.{plain_event}
 use Rattle.granit_input.specs.Origin.{Origin}
 pub use Rattle.granit_layers.specs.Turning.{Next}
-use Rattle.granit_lexemes.specs.Outcome.{Fails}
 use Rattle.granit_lexemes.specs.PlainEvent.{PlainEvent}
-use Rattle.granit_parser.specs.Sources.{IfUnseen, MovesUnless, TellsError, TellsSource}
-use Rattle.granit_parser.specs.Waiting.{GivesAtOnce}
 use Rattle.granit_receivers.specs.Kept.{IsKept}
+use Rattle.granit_sourced.specs.Giving.{EndsWith, GivesNext}
+use Rattle.granit_sourced.specs.Sources.{IfUnseen, MovesUnless, TellsError, TellsSource}
+use Rattle.granit_sourced.specs.Waiting.{GivesAtOnce}
 use Rattle.granit_stepper.specs.Numbers.{RefusesNumber}
 use Rattle.granit_stepper.specs.Stepping as stepping
-use Rattle.granit_stepper.specs.Stepping.{Stepping, StandsIn}
+pub use Rattle.granit_stepper.specs.Stepping.{Stepping, StandsIn}
 use Rattle.granit_steps.specs.Levels.{IsStream, BeginsStream}
 use Rattle.granit_steps.specs.Steps.{StepState, next_event}
 use Rattle.granit_steps.specs.Told.{EventsTold}
-
--- an event, why there is none, or nothing more, as the stepper says it
-abbrev pub next_view : {X : Type 0} → Result (Option X) Refused → Option (Result X Refused)
-next_view (Ok None) = None
-next_view (Ok (Some x)) = Some (Ok x)
-next_view (Err e) = Some (Err e)
 
 -- a stepper, what was looked at and not taken, the refusal that was given, whether a call gave it for want of memory,
 -- whether the end of a document was the last that was given, comments aside, whether that of the stream was, and
@@ -41,10 +35,6 @@ pub record Parsing (I : Type 0) : Type 0 where
   pub between : Bool
   pub over : Bool
   pub answered : Bool
-
--- where this is a refusal, it is the last that is given: a parser that has nothing looked at is then over
-abbrev pub EndsWith : {I : Type 0} → Next → Stepping I → Type 0
-EndsWith r s = IfSome r (λ x. IfErr x (λ e. s.failed ≡ true))
 
 -- nothing is read behind a refusal that was looked at, and nothing comes behind one that was given
 pub record EndsBehind {I : Type 0} (r : Next) (given : Option Refused) (s : Stepping I) : Type 0 where
@@ -77,18 +67,6 @@ notes_answered (Some (Err e)) answered = answered
 -- the same parser, with handles that stay over documents or not
 abbrev pub parser_keeping : {I : Type 0} → Bool → Parsing I → Parsing I
 parser_keeping keep p = record p { stepper = stepping.keeping keep p.stepper }
-
--- a call gives what the machine's step gives, and a state is then known in which that ends; a refusal is its fault,
--- unless memory ran out, or says that no number is left for an anchor
-abbrev pub GivesNext : Next → (StepState → Type 0) → (renumbered : Bool) → OptionsData → StepState → Type 0
-GivesNext None Lands renumbered o m = (after : StepState) × Lands after × (next_event o m ≡ Ok (None, after))
-GivesNext (Some (Ok e)) Lands renumbered o m =
-    (after : StepState) × Lands after × (next_event o m ≡ Ok (Some (plain_event e), after))
-GivesNext (Some (Err e)) Lands renumbered o m = Fails e (next_event o m) ⊎ RefusesNumber renumbered o m e
-
--- what the step from a state gives, and a state is then known in which that leaves the stepper
-abbrev pub StepsBy : {I : Type 0} → (I → Unread → Type 0) → Next → (old new : Stepping I) → StepState → Type 0
-StepsBy unread r old new m = GivesNext r (StandsIn unread new) new.renumbered old.scanner.options m
 
 -- a state of the machine in which a stepper is known to be, or out of which what was looked at led it
 abbrev pub StandsBefore : {I : Type 0} → (I → Unread → Type 0) → Next → Stepping I → StepState → Type 0

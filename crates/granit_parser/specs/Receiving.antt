@@ -1,6 +1,6 @@
 -- What `load` and `try_load` send to a receiver.
-use Rattle.std.specs.Prelude.{◌≡◌, ◌≤◌, ◌⊎◌, Bool, true, false, List, [], ◌∷◌, ◌++◌, length, Option, Some, None}
-use Rattle.std.specs.Prelude.{Result, Ok, Err, IfErr, IfSome}
+use Rattle.std.specs.Prelude.{◌≡◌, ◌≤◌, ◌⊎◌, Bool, true, false, List, [], ◌∷◌, ◌++◌, length, Option, Some, None, Result}
+use Rattle.std.specs.Prelude.{Ok, Err, IfErr, IfSome}
 use Rattle.granit_base.specs.Counts.{last_count}
 use Rattle.granit_base.specs.Place.{Mark, Unread}
 use Rattle.granit_base.specs.declared.place.Span.{Span}
@@ -15,8 +15,7 @@ use Rattle.granit_lexemes.specs.Here.{Here, mark_of}
 use Rattle.granit_lexemes.specs.Outcome.{Fails}
 use Rattle.granit_lexemes.specs.PlainEvent.{PlainEvent, StreamEnd, event_on}
 use Rattle.granit_parser.specs.Parsing.{Parsing, StandsAt}
-use Rattle.granit_parser.specs.Recovering.{FailsAt, GivesCall, ParserIn, failed_in}
-use Rattle.granit_parser.specs.Sources.{IsSourceError}
+use Rattle.granit_parser.specs.Recovering.{GivesCall, ParserIn, failed_in}
 use Rattle.granit_receivers.specs.Kept.{IsKept}
 use Rattle.granit_receivers.specs.Sending.{is_last}
 use Rattle.granit_receivers.specs.Taking.{Took}
@@ -24,6 +23,8 @@ use Rattle.granit_receivers.specs.declared.error.TryLoadError.{TryLoadError}
 use Rattle.granit_receivers.specs.declared.error.TryLoadError.TheVariants.{Scan, Receiver}
 use Rattle.granit_recovery.specs.Streams.{CallsGive}
 use Rattle.granit_restart.specs.Calls.{Calls}
+use Rattle.granit_sourced.specs.Going.{FailsAt}
+use Rattle.granit_sourced.specs.Sources.{IsSourceError}
 use Rattle.granit_stepper.specs.Numbers.{RefusesNumber}
 use Rattle.granit_steps.specs.Steps.{StepState, next_event}
 

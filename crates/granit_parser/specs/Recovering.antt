@@ -16,57 +16,29 @@ use Rattle.granit_lexemes.specs.PlainEvent.{DocumentEnd, DocumentStart, EventKin
 use Rattle.granit_parser.specs.Holding.{FaultLacksNumber, LeadsToFault, MetFault, ParserHolds, WaitsBehind, held_behind}
 use Rattle.granit_parser.specs.Holding.{held_room}
 use Rattle.granit_parser.specs.Parsing.{Next, Parsing}
-use Rattle.granit_parser.specs.Sources.{IfUnseen, NeverRecovers, TellsSource}
 use Rattle.granit_receivers.specs.Kept.{IsKept}
 use Rattle.granit_seen.specs.Seeing.{seen_kind, seen_starts_document}
 use Rattle.granit_seen.specs.declared.seen.Seen.{Seen}
 use Rattle.granit_seen.specs.declared.seen.Seen.TheVariants as seens
 use Rattle.granit_recovery.specs.Asking.{LookTells}
 use Rattle.granit_recovery.specs.Streams.{EarlyOf, ReachedByCalls}
-use Rattle.granit_restart.specs.Ahead.{AheadOf, NoneComes, is_note}
-use Rattle.granit_restart.specs.Calls.{Calls, failing, next_call, noted}
+use Rattle.granit_restart.specs.Ahead.{AheadOf, is_note}
+use Rattle.granit_restart.specs.Calls.{Calls, next_call, noted}
 use Rattle.granit_restart.specs.Following.{document_follows}
 use Rattle.granit_restart.specs.Recovery.{comment_count, recover, recovered, recovery_answer, resumed}
 use Rattle.granit_restart.specs.Restart.{behind_fault}
 use Rattle.granit_restart.specs.Skipping as skipping
 use Rattle.granit_restart.specs.Skipping.{Ended, SkipEnd, Stops, skip_by_turns, skipped_fault, with_pending}
-use Rattle.granit_restart.specs.Turned.{Turned, with_count}
+use Rattle.granit_restart.specs.Turned.{Turned}
+use Rattle.granit_sourced.specs.Going.{Failed, FailsAt, GoesWithCalls, SeenNext}
+use Rattle.granit_sourced.specs.Sources.{IfUnseen, NeverRecovers, TellsSource}
 use Rattle.granit_stepper.specs.Holding.{held_follows}
 use Rattle.granit_stepper.specs.Numbers.{RefusesNumber}
 use Rattle.granit_stepper.specs.Recovering.{DropsOn, StopsAt, StopsBehind}
-use Rattle.granit_stepper.specs.Refusals.{FailsIn, StandsAhead, StandsRefused}
 use Rattle.granit_stepper.specs.Stepping.{Stepping}
 use Rattle.granit_steps.specs.Steps.{StepState, next_event}
 
--- ---- where a stepper is
-
--- No call failed: a stepper is where calls led, or some turns ahead of it. Directly behind a document it is ahead only
--- where no other comes.
-pub record GoesWithCalls {I : Type 0} (unread : I → Unread → Type 0) (s : Stepping I) (c : Calls) : Type 0 where
-  pub steps : StepState
-  pub ahead : AheadOf s.scanner.options c.steps steps
-  pub stands : StandsAhead unread s steps
-  pub between : c.between ≡ true → (steps ≡ c.steps) ⊎ NoneComes s.scanner.options c.steps
-  pub told : c.between ≡ true → s.first ≡ None
-
--- A call failed: the turn that failed is known, and under which options, behind how many anchors, it did. Others may
--- have been set since; recovery goes on by those.
-pub record Failed {I : Type 0} (unread : I → Unread → Type 0) (s : Stepping I) (m : StepState) (f : Fault) : Type 0
-  where
-    pub stands : StandsRefused unread s m f
-    pub options : OptionsData
-    pub count : ℕ
-    pub fails : FailsIn s.renumbered options (with_pending [] (with_count count m)) f
-    pub failed : s.failed ≡ true
-
 -- ---- where a parser is
-
--- an event was looked at: the next call gives it, and the stepper is where that call leads
-pub record SeenNext {I : Type 0} (unread : I → Unread → Type 0) (s : Stepping I) (e : PlainEvent) (c : Calls) : Type 0
-  where
-    pub steps : StepState
-    pub next : next_event s.scanner.options c.steps ≡ Ok (Some e, steps)
-    pub goes : GoesWithCalls unread s (noted e.kind (record c { steps = steps }))
 
 -- no event was looked at
 abbrev pub SeenNone : Next → Type 0
@@ -128,21 +100,6 @@ ForOpen unread p Holds =
 -- a call failed in that state
 abbrev pub failed_in : StepState → Fault → Calls → Calls
 failed_in m f c = record c { steps = m; fault = Some f }
-
--- Which turn failed: the machine's, behind the turns that lead there, or the next anchor would get the greatest number.
-abbrev pub FailsAt : (renumbered : Bool) → OptionsData → StepState → Calls → Refused → Type 0
-FailsAt renumbered o m c e =
-    FailsIn renumbered o (with_pending [] m) e
-    × (((next_event o c.steps ≡ Err e) × (m ≡ failing o c.steps))
-    ⊎ ((t : StepState) × AheadOf o c.steps t × RefusesNumber renumbered o t e))
-
--- what a read gives: the event of the next call, with the stepper where that leads, or its fault, unless memory ran out
--- or an anchor would get the greatest number
-abbrev pub ReadsNext : {I : Type 0} → (I → Unread → Type 0) → Next → Stepping I → Calls → Type 0
-ReadsNext unread None s c = (t : StepState) × (next_event s.scanner.options c.steps ≡ Ok (None, t))
-ReadsNext unread (Some (Ok x)) s c = SeenNext unread s (plain_event x) c
-ReadsNext unread (Some (Err e)) s c = (e.kind ≡ NoMemory → ⊥) → (m : StepState) × Failed unread s m e
-    × FailsAt s.renumbered s.scanner.options m c e
 
 -- a call gives what the machine's call gives, which is never nothing, and leads where that leads
 abbrev pub GivesCall : {I : Type 0} → (I → Unread → Type 0) → Next → Parsing I → Calls → Type 0

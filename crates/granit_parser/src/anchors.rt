@@ -1,6 +1,5 @@
 //! The number that a parser's next anchor gets.
 ghost use Rattle.std.specs.Prelude.{◌≡◌, None, Some};
-ghost use Rattle.granit_base.specs.Place.{Unread};
 ghost use Rattle.granit_lexemes.specs.Outcome.{Fault};
 ghost use Rattle.granit_parser.specs.Holding.{HoldsChanged, ParserHolds};
 ghost use Rattle.granit_parser.specs.Numbers.{next_number, with_number};

@@ -1,44 +1,36 @@
 //! An input that is read into events, one for each call, with a look at the next.
 ghost use mir.Syntax.{named};
-ghost use Rattle.std.specs.Prelude.{◌≡◌, ◌≤◌, ◌||◌, ◌⊎◌, ℕ, List, [], true, false, None, Option, Some, IfErr, IfSome};
-ghost use Rattle.std.specs.Prelude.{is_some};
+ghost use Rattle.std.specs.Prelude.{◌≡◌, ◌||◌, ◌⊎◌, ℕ, List, [], true, false, None, Option, Some, IfSome, is_some};
 ghost use Rattle.std.specs.Option.{option_map};
 ghost use Rattle.std.specs.Borrow.{sem};
 ghost use Rattle.std.specs.Io.BufRead.{Rests};
 ghost use Rattle.std.specs.Str.{chars};
-ghost use Rattle.granit_base.specs.Place.{Unread};
 ghost use Rattle.granit_cursor.specs.Reading.{GoesOnward};
-ghost use Rattle.granit_cursor.specs.Reading.{Moves};
 ghost use Rattle.granit_error.specs.FaultKind.{FaultKind, wants_memory};
 ghost use Rattle.granit_error.specs.Refused.{Refused};
 ghost use Rattle.granit_error.specs.OptionsData.{default_options};
 ghost use Rattle.granit_error.specs.OptionsView.{options_of};
-ghost use Rattle.granit_input.specs.Origin.{Gave, error_given};
 ghost use Rattle.granit_input.specs.Strings.{LeftInString};
 ghost use Rattle.granit_lexemes.specs.Here.{Here, first_place};
 ghost use Rattle.granit_lexemes.specs.PlainEvent.{PlainEvent};
-ghost use Rattle.granit_parser.specs.Holding.{ParserHolds, ReadsHeld, WaitsBehind};
-ghost use Rattle.granit_parser.specs.Parsing as spec;
+ghost use Rattle.granit_parser.specs.Holding.{ParserHolds, WaitsBehind};
 ghost use Rattle.granit_parser.specs.Alone.{EndsAlone};
-ghost use Rattle.granit_parser.specs.Parsing.{EndsBehind, EndsText, EndsTold, EndsWith, GivesNext, IsOver, KeepsGiven};
-ghost use Rattle.granit_parser.specs.Parsing.{LeadsTo, ParserPeeksAs, StandsAt, Starves, StepsBy};
-ghost use Rattle.granit_parser.specs.Parsing.{notes_answered};
-ghost use Rattle.granit_parser.specs.Recovering.{GivesCall, CallGivesHeld, GoesWithCalls, IsClosed, IsOpen, ParserIn};
-ghost use Rattle.granit_parser.specs.Recovering.{PeeksIn, ReadsNext, SeenBy, notes_between, notes_over};
+ghost use Rattle.granit_parser.specs.Parsing.{EndsBehind, EndsText, EndsTold, IsOver, KeepsGiven, LeadsTo};
+ghost use Rattle.granit_parser.specs.Parsing.{ParserPeeksAs, StandsAt, Starves, notes_answered};
+ghost use Rattle.granit_parser.specs.Recovering.{GivesCall, CallGivesHeld, IsClosed, IsOpen, ParserIn, PeeksIn, SeenBy};
+ghost use Rattle.granit_parser.specs.Recovering.{notes_between, notes_over};
 ghost use Rattle.granit_parser.specs.Resuming.{Resumed, ResumesCall};
 ghost use Rattle.granit_parser.specs.contracts.parser.Parser.{the_row};
-ghost use Rattle.granit_parser.specs.Sources.{IfUnseen, MovesUnless, NeverRecovers, NeverRevives, TellsError};
-ghost use Rattle.granit_parser.specs.Sources.{TellsSource, unless_failed};
-ghost use Rattle.granit_parser.specs.Waiting.{GivesAtOnce, TakesFirst};
 ghost use Rattle.granit_receivers.specs.Kept.{IsKept};
 ghost use Rattle.granit_receivers.specs.Sending.{shown};
 ghost use Rattle.granit_recovery.specs.Streams.{ReachedByCalls, calls_from};
 ghost use Rattle.granit_restart.specs.Calls.{Calls, calls_start};
 ghost use Rattle.granit_restart.specs.Skipping.{Stops};
-ghost use Rattle.granit_stepper.specs.Holding.{HoldsFault};
-ghost use Rattle.granit_stepper.specs.Refusals.{HoldsRefusal, StandsRefused};
-ghost use Rattle.granit_stepper.specs.Stepping.{StandsIn, refused_kind};
-ghost use Rattle.granit_stepper.specs.Waiting.{IsAtEnd, SameButCursor};
+ghost use Rattle.granit_sourced.specs.Going.{ReadsHeld, ReadsNext};
+ghost use Rattle.granit_sourced.specs.Giving.{EndsWith, GivesNext, StepsBy};
+ghost use Rattle.granit_sourced.specs.Sources.{IfUnseen, MovesUnless, NeverRecovers, TellsError, TellsSource};
+ghost use Rattle.granit_sourced.specs.Waiting.{GivesAtOnce};
+ghost use Rattle.granit_stepper.specs.Stepping.{refused_kind};
 ghost use Rattle.granit_shifted.specs.Alone.{TellsMoved};
 ghost use Rattle.granit_shifted.specs.Shift.{Shift};
 ghost use Rattle.granit_steps.specs.Steps as steps;
@@ -50,7 +42,8 @@ use granit_error::{ErrorKind, Options, ScanError};
 use granit_event::Event;
 use granit_input::{BorrowedInput, Input, StrInput};
 use granit_receivers::kept;
-use granit_recovery::{an_open_call_gives_something, calls_go_by_turns};
+use granit_recovery::an_open_call_gives_something;
+use granit_sourced::read_event;
 use granit_stepper::Stepper;
 use std::alloc::Global;
 use std::iter::FusedIterator;
@@ -190,8 +183,7 @@ impl<'input, T: BorrowedInput<'input>> Parser<'input, T> {
         ensures source { IfUnseen self.old.peeked (TellsError T.origin self.old.stepper result
             self.new.stepper.scanner.cursor) }
         ensures at_once { IfUnseen self.old.peeked (GivesAtOnce T.origin self.old.stepper result self.new.stepper) }
-        ensures lost { IfUnseen self.old.peeked (NeverRecovers T.origin self.old.stepper result
-            self.new.stepper) }
+        ensures lost { IfUnseen self.old.peeked (NeverRecovers T.origin self.old.stepper result self.new.stepper) }
         ensures text { (x : List ℕ) (es : List PlainEvent) (m : StepState) → StandsAt T.unread self.old m
             → LeadsTo self.old.stepper.scanner.options (steps.steps_start x) es m
             → EndsText self.old.stepper.scanner.options x es self.new.stepper.renumbered m result
@@ -269,7 +261,7 @@ impl<'input, T: BorrowedInput<'input>> Parser<'input, T> {
         ensures rest { self.new ≡ record self.old { given = self.new.given; starved = self.new.starved } }
     {
         drop(self.given.replace(kept(self.alloc, error)));
-        self.starved = wants_memory(error);
+        self.starved = error.kind().number() == ErrorKind::NoMemory.number();
     }
 
     /// A refusal is forgotten, whether it was given or looked at.
@@ -295,14 +287,8 @@ impl<'input, T: BorrowedInput<'input>> Parser<'input, T> {
         ensures source { IfUnseen self.old.peeked (TellsError T.origin self.old.stepper next.new
             self.new.stepper.scanner.cursor) }
         ensures at_once { IfUnseen self.old.peeked (GivesAtOnce T.origin self.old.stepper next.new self.new.stepper) }
-        ensures lost { IfUnseen self.old.peeked (NeverRecovers T.origin self.old.stepper next.new
-            self.new.stepper) }
-        ensures peeked { self.new.peeked ≡ None }
-        ensures given { self.new.given ≡ self.old.given }
-        ensures starved { self.new.starved ≡ self.old.starved }
-        ensures between { self.new.between ≡ self.old.between }
-        ensures answered { self.new.answered ≡ self.old.answered }
-        ensures going { self.new.over ≡ self.old.over }
+        ensures lost { IfUnseen self.old.peeked (NeverRecovers T.origin self.old.stepper next.new self.new.stepper) }
+        ensures rest { self.new ≡ record self.old { stepper = self.new.stepper; peeked = None } }
         ensures seen { IfSome self.old.peeked (λ r. (next.new ≡ Some r) × (self.new.stepper ≡ self.old.stepper)) }
         ensures refused { EndsWith next.new self.new.stepper }
         ensures over { IsOver self.old → (next.new ≡ None) × (self.new ≡ self.old) }
@@ -313,7 +299,7 @@ impl<'input, T: BorrowedInput<'input>> Parser<'input, T> {
         ensures onward { GoesOnward T.unread self.old.stepper.scanner.cursor self.new.stepper.scanner.cursor }
     {
         if self.peeked.is_none() {
-            self.read_event(next);
+            read_event(self.alloc, &mut self.stepper, next);
         } else {
             self.put_seen(next);
         }
@@ -351,7 +337,7 @@ impl<'input, T: BorrowedInput<'input>> Parser<'input, T> {
         an_open_call_gives_something();
         if self.peeked.is_none() {
             let mut next: Option<Result<(Event<'input>, Span), ScanError>> = None;
-            self.read_event(&mut next);
+            read_event(self.alloc, &mut self.stepper, &mut next);
             self.put_ahead(next);
         }
     }
@@ -379,13 +365,6 @@ impl<'input, T: BorrowedInput<'input>> Parser<'input, T> {
         self.peeked.take()
     }
 
-    /// What was looked at is dropped.
-    pub(crate) fn forget(&mut self)
-        ensures { self.new ≡ record self.old { peeked = None } }
-    {
-        drop(self.peeked.take());
-    }
-
     /// What was looked at.
     fn look(&self) -> Option<Result<&(Event<'input>, Span), &ScanError>>
         ensures { shown result ≡ self.now.peeked }
@@ -397,117 +376,11 @@ impl<'input, T: BorrowedInput<'input>> Parser<'input, T> {
         }
     }
 
-    /// The next event of the input is put there, or the error of its source, whatever was read up to that.
-    fn read_event(&mut self, next: &mut Option<Result<(Event<'input>, Span), ScanError>>)
-        ensures known { (m : StepState) → StandsIn T.unread self.old.stepper m
-            → StepsBy T.unread next.new self.old.stepper self.new.stepper m
-            ⊎ TellsSource T.origin next.new self.new.stepper.scanner.cursor }
-        ensures sure { (m : StepState) → StandsIn T.unread self.old.stepper m
-            → (T.origin self.new.stepper.scanner.cursor.input).error ≡ None
-            → StepsBy T.unread next.new self.old.stepper self.new.stepper m }
-        ensures calls { (c : Calls) → ReachedByCalls self.old.stepper.scanner.options c
-            → GoesWithCalls T.unread self.old.stepper c
-            → ReadsNext T.unread next.new self.new.stepper c
-            ⊎ TellsSource T.origin next.new self.new.stepper.scanner.cursor }
-        ensures waits { (m : StepState) (f : Refused) → HoldsFault T.unread self.old.stepper m f
-            → ReadsHeld T.unread next.new self.new.stepper m f
-            ⊎ TellsSource T.origin next.new self.new.stepper.scanner.cursor }
-        ensures source { TellsError T.origin self.old.stepper next.new self.new.stepper.scanner.cursor }
-        ensures at_once { GivesAtOnce T.origin self.old.stepper next.new self.new.stepper }
-        ensures lost { NeverRecovers T.origin self.old.stepper next.new self.new.stepper }
-        ensures peeked { self.new.peeked ≡ self.old.peeked }
-        ensures given { self.new.given ≡ self.old.given }
-        ensures starved { self.new.starved ≡ self.old.starved }
-        ensures between { self.new.between ≡ self.old.between }
-        ensures answered { self.new.answered ≡ self.old.answered }
-        ensures going { self.new.over ≡ self.old.over }
-        ensures refused { EndsWith next.new self.new.stepper }
-        ensures over { self.old.stepper.failed ≡ true → (next.new ≡ None) × (self.new ≡ self.old) }
-        ensures options { self.new.stepper.scanner.options ≡ self.old.stepper.scanner.options }
-        ensures renumbered { self.new.stepper.renumbered ≡ self.old.stepper.renumbered }
-        ensures moves { MovesUnless T.left T.origin next.new self.old.stepper.scanner.cursor
-            self.new.stepper.scanner.cursor }
-        ensures onward { GoesOnward T.unread self.old.stepper.scanner.cursor self.new.stepper.scanner.cursor }
-    {
-        if self.has_failed() {
-            *next = None;
-            return;
-        }
-        self.step_event(next);
-        put_error(next, self.take_source_error());
-    }
-
     /// Whether nothing more is given.
     pub(crate) fn has_failed(&self) -> bool
         ensures { result ≡ self.now.stepper.failed }
     {
         self.stepper.has_failed()
-    }
-
-    /// The first error of the source, once, at the place up to which was read. Nothing more is given then.
-    pub(crate) fn take_source_error(&mut self) -> Option<ScanError>
-        ensures given { option_map refused_kind result
-            ≡ error_given (T.origin self.old.stepper.scanner.cursor.input) }
-        ensures place { IfSome result (λ e. (e.mark.place ≡ self.new.stepper.scanner.cursor.place)
-            × (e.sources ≡ [])) }
-        ensures offset { IfSome result (λ e.
-            is_some e.mark.byte_offset ≡ (T.origin self.new.stepper.scanner.cursor.input).tells_offset) }
-        ensures known { (m : StepState) → StandsIn T.unread self.old.stepper m → result ≡ None
-            → StandsIn T.unread self.new.stepper m }
-        ensures held { (m : StepState) → HoldsRefusal T.unread self.old.stepper m → result ≡ None
-            → HoldsRefusal T.unread self.new.stepper m }
-        ensures refused { (m : StepState) (e : Refused) → StandsRefused T.unread self.old.stepper m e → result ≡ None
-            → StandsRefused T.unread self.new.stepper m e }
-        ensures lost { IfSome result (λ e. self.new.stepper.refusal ≡ None) }
-        ensures ended { result ≡ None → self.new.stepper.refusal ≡ self.old.stepper.refusal }
-        ensures rest { result ≡ None → SameButCursor self.old.stepper self.new.stepper }
-        ensures first { self.new.stepper.first ≡ self.old.stepper.first }
-        ensures ahead { self.new.stepper.ahead ≡ self.old.stepper.ahead }
-        ensures peeked { self.new.peeked ≡ self.old.peeked }
-        ensures kept { self.new.given ≡ self.old.given }
-        ensures starved { self.new.starved ≡ self.old.starved }
-        ensures between { self.new.between ≡ self.old.between }
-        ensures answered { self.new.answered ≡ self.old.answered }
-        ensures going { self.new.over ≡ self.old.over }
-        ensures failed { self.new.stepper.failed ≡ (self.old.stepper.failed || is_some result) }
-        ensures options { self.new.stepper.scanner.options ≡ self.old.stepper.scanner.options }
-        ensures renumbered { self.new.stepper.renumbered ≡ self.old.stepper.renumbered }
-        ensures left { T.left self.new.stepper.scanner.cursor.input ≤ T.left self.old.stepper.scanner.cursor.input }
-        ensures origin { Gave (T.origin self.old.stepper.scanner.cursor.input)
-            (T.origin self.new.stepper.scanner.cursor.input) }
-        ensures onward { GoesOnward T.unread self.old.stepper.scanner.cursor self.new.stepper.scanner.cursor }
-    {
-        self.stepper.take_source_error()
-    }
-
-    /// The next event of what was read is put there, whether the source failed or not.
-    pub(crate) fn step_event(&mut self, next: &mut Option<Result<(Event<'input>, Span), ScanError>>)
-        ensures known { (m : StepState) → StandsIn T.unread self.old.stepper m
-            → GivesNext next.new (StandsIn T.unread self.new.stepper)
-            self.old.stepper.renumbered self.old.stepper.scanner.options m }
-        ensures calls { (c : Calls) → ReachedByCalls self.old.stepper.scanner.options c
-            → GoesWithCalls T.unread self.old.stepper c
-            → ReadsNext T.unread next.new self.new.stepper c }
-        ensures waits { (m : StepState) (f : Refused) → HoldsFault T.unread self.old.stepper m f
-            → ReadsHeld T.unread next.new self.new.stepper m f }
-        ensures waiting { self.old.stepper.failed ≡ false
-            → TakesFirst next.new self.old.stepper self.new.stepper }
-        ensures ended { IsAtEnd self.old.stepper → (next.new ≡ None) × (self.new.stepper ≡ self.old.stepper) }
-        ensures peeked { self.new.peeked ≡ self.old.peeked }
-        ensures given { self.new.given ≡ self.old.given }
-        ensures starved { self.new.starved ≡ self.old.starved }
-        ensures between { self.new.between ≡ self.old.between }
-        ensures answered { self.new.answered ≡ self.old.answered }
-        ensures going { self.new.over ≡ self.old.over }
-        ensures lost { NeverRevives next.new self.new.stepper }
-        ensures refused { EndsWith next.new self.new.stepper }
-        ensures over { self.old.stepper.failed ≡ true → (next.new ≡ None) × (self.new ≡ self.old) }
-        ensures options { self.new.stepper.scanner.options ≡ self.old.stepper.scanner.options }
-        ensures renumbered { self.new.stepper.renumbered ≡ self.old.stepper.renumbered }
-        ensures moves { Moves T.unread T.left T.origin self.old.stepper.scanner.cursor self.new.stepper.scanner.cursor }
-    {
-        calls_go_by_turns();
-        self.stepper.next_event(self.alloc, next);
     }
 
     /// Whether it isn't known where reading stands, since memory ran out in the midst of a run.
@@ -523,8 +396,7 @@ impl<'input, T: BorrowedInput<'input>> Parser<'input, T> {
         ensures told { (f : Option FaultKind) → (T.origin self.old.stepper.scanner.cursor.input).ends_with f
             → (T.origin self.old.stepper.scanner.cursor.input).handed_out ≡ false
             → option_map refused_kind result ≡ f }
-        ensures place { IfSome result (λ e. (e.mark.place ≡ self.new.stepper.scanner.cursor.place)
-            × (e.sources ≡ [])) }
+        ensures place { IfSome result (λ e. (e.mark.place ≡ self.new.stepper.scanner.cursor.place) × (e.sources ≡ [])) }
         ensures offset { IfSome result (λ e.
             is_some e.mark.byte_offset ≡ (T.origin self.old.stepper.scanner.cursor.input).tells_offset) }
         ensures failed { self.new.stepper.failed ≡ (self.old.stepper.failed || is_some result) }
@@ -537,23 +409,6 @@ impl<'input, T: BorrowedInput<'input>> Parser<'input, T> {
     {
         self.stepper.end_error()
     }
-}
-
-fn wants_memory(error: &ScanError) -> bool
-    ensures { result ≡ wants_memory error.now.kind }
-{
-    error.kind().number() == ErrorKind::NoMemory.number()
-}
-
-/// An event, or the error of the source in its place.
-#[inline(always)]
-fn put_error<'a>(next: &mut Option<Result<(Event<'a>, Span), ScanError>>, error: Option<ScanError>)
-    ensures { next.new ≡ unless_failed next.old error }
-{
-    let Some(error) = error else {
-        return;
-    };
-    *next = Some(Err(error));
 }
 
 /// The events one by one, as `next_event` gives them, up to the end of the stream or a refusal.

@@ -1,17 +1,14 @@
 //! The events of an input, sent to a receiver.
-ghost use Rattle.std.specs.Prelude.{◌≡◌, None, Some, false, true, IfErr, IfOk, IfSome};
-ghost use Rattle.granit_base.specs.Place.{Unread};
+ghost use Rattle.std.specs.Prelude.{◌≡◌, None, Some, false, true, IfErr, IfSome};
 ghost use Rattle.granit_cursor.specs.Reading.{GoesOnward};
 ghost use Rattle.granit_error.specs.FaultKind.{NoMemory as OutOfMemory};
 ghost use Rattle.granit_error.specs.Refused.{Refused};
-ghost use Rattle.granit_event.specs.Events.{event_kind};
 ghost use Rattle.granit_parser.specs.Parsing.{IsOver, StandsAt, StarvedBy};
 ghost use Rattle.granit_parser.specs.Receiving.{CallsLeave, FirstCall, GivesFirst, KeepsRefusal, KeepsScan, Loads};
-ghost use Rattle.granit_parser.specs.Receiving.{LoadsRest, TookBy, Tries, TriesRest, UnlessRefused, WantsOnly};
-ghost use Rattle.granit_parser.specs.Receiving.{scanned};
+ghost use Rattle.granit_parser.specs.Receiving.{LoadsRest, TookBy, Tries, TriesRest, UnlessRefused, WantsOnly, scanned};
 ghost use Rattle.granit_parser.specs.Recovering.{ForOpen};
-ghost use Rattle.granit_parser.specs.Sources.{IfUnseen, MovesUnless, TellsError, TellsMet};
 ghost use Rattle.granit_receivers.specs.Kept.{CountsErrors, GivesAgain, KeptAgain, ScansAgain};
+ghost use Rattle.granit_sourced.specs.Sources.{IfUnseen, MovesUnless, TellsError, TellsMet};
 ghost use Rattle.granit_steps.specs.Steps.{StepState};
 
 use crate::parser::Parser;
@@ -82,8 +79,7 @@ impl<'input, T: BorrowedInput<'input>> Parser<'input, T> {
         ensures source { self.old.peeked ≡ None → TellsMet T.origin self.old.stepper.scanner.cursor (Some result)
             self.new.stepper.scanner.cursor }
         ensures peeked { self.new.peeked ≡ None }
-        ensures answered { UnlessRefused (Some result)
-            (self.old.answered ≡ false → self.new.answered ≡ false) }
+        ensures answered { UnlessRefused (Some result) (self.old.answered ≡ false → self.new.answered ≡ false) }
         ensures given { self.old.given ≡ None → KeepsRefusal result self.new.given }
         ensures memory { WantsOnly self.new.starved (TookBy R.taken R.spans recv.old recv.new) (Some result) }
         ensures options { self.new.stepper.scanner.options ≡ self.old.stepper.scanner.options }
@@ -167,8 +163,7 @@ impl<'input, T: BorrowedInput<'input>> Parser<'input, T> {
         ensures source { self.old.peeked ≡ None → TellsMet T.origin self.old.stepper.scanner.cursor (scanned result)
             self.new.stepper.scanner.cursor }
         ensures peeked { self.new.peeked ≡ None }
-        ensures answered { UnlessRefused (scanned result)
-            (self.old.answered ≡ false → self.new.answered ≡ false) }
+        ensures answered { UnlessRefused (scanned result) (self.old.answered ≡ false → self.new.answered ≡ false) }
         ensures given { self.old.given ≡ None → KeepsScan result self.new.given }
         ensures errors { CountsErrors (R.errors recv.old) (R.errors recv.new) result }
         ensures memory { WantsOnly self.new.starved (TookBy R.taken R.spans recv.old recv.new) (scanned result) }
@@ -240,7 +235,7 @@ impl<'input, T: BorrowedInput<'input>> Parser<'input, T> {
         ensures same { self.new.stepper.scanner ≡ self.old.stepper.scanner }
         ensures renumbered { self.new.stepper.renumbered ≡ self.old.stepper.renumbered }
     {
-        self.forget();
+        drop(self.take_seen());
         self.stepper.stop();
         drop(self.given.replace(ScanError::from(NoMemory)));
         ScanError::from(NoMemory)

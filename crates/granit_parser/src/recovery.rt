@@ -7,19 +7,17 @@ ghost use Rattle.granit_event.specs.Events.{event_kind};
 ghost use Rattle.granit_lexemes.specs.Outcome.{Fault};
 ghost use Rattle.granit_parser.specs.Holding.{FaultLacksNumber, ParserHolds, WaitsBehind, held_behind, held_room};
 ghost use Rattle.granit_parser.specs.Holding.{stays_seen};
-ghost use Rattle.granit_parser.specs.Parsing.{EndsBehind};
 ghost use Rattle.granit_parser.specs.Recovering.{AsksBy, Ends, EndsHeld, Follows, ForCalls, GaveUp, GivesSeen};
 ghost use Rattle.granit_parser.specs.Recovering.{IsClosed, IsNoted, IsOpen, LookShowsHeld, LooksNoMore, ParserIn};
-ghost use Rattle.granit_parser.specs.Recovering.{Proceeds};
-ghost use Rattle.granit_parser.specs.Recovering.{ProceedsHeld, ProceedsHeldNext, ProceedsNext, SeenBy, ShowsFirst};
-ghost use Rattle.granit_parser.specs.Recovering.{SkipsToAsk, SkipsWaiting, between_behind, over_behind, seen_in};
-ghost use Rattle.granit_parser.specs.Recovering.{stays_by};
-ghost use Rattle.granit_parser.specs.Sources.{IsSourceError, UnlessSource};
+ghost use Rattle.granit_parser.specs.Recovering.{Proceeds, ProceedsHeld, ProceedsHeldNext, ProceedsNext, SeenBy};
+ghost use Rattle.granit_parser.specs.Recovering.{ShowsFirst, SkipsToAsk, SkipsWaiting, between_behind, over_behind};
+ghost use Rattle.granit_parser.specs.Recovering.{seen_in, stays_by};
 ghost use Rattle.granit_error.specs.Refused.{UnlessMemory};
 ghost use Rattle.granit_receivers.specs.Kept.{GivesAgain, IsKept};
 ghost use Rattle.granit_seen.specs.Seeing.{seen_starts_document};
 ghost use Rattle.granit_seen.specs.declared.seen.Seen.TheVariants as seens;
 ghost use Rattle.granit_restart.specs.Calls.{Calls};
+ghost use Rattle.granit_sourced.specs.Sources.{IsSourceError, UnlessSource};
 ghost use Rattle.granit_stepper.specs.Holding.{held_follows};
 ghost use Rattle.granit_steps.specs.Steps.{StepState};
 
@@ -34,6 +32,7 @@ use granit_recovery::{
     an_open_call_gives_something, calls_go_by_turns, nothing_changes_behind_the_end,
 };
 use granit_seen::{Seen, ends, ends_stream, seen_of, starts, tells};
+use granit_sourced::step_event;
 
 impl<'input, T: BorrowedInput<'input>> Parser<'input, T> {
     /// Drops a document, or what is left of the open one, and tells whether another is there: behind a refusal that was
@@ -103,7 +102,7 @@ impl<'input, T: BorrowedInput<'input>> Parser<'input, T> {
         an_open_call_gives_something();
         if self.looks_first() {
             let mut next: Option<Result<(Event<'input>, Span), ScanError>> = None;
-            self.step_event(&mut next);
+            step_event(self.alloc, &mut self.stepper, &mut next);
             self.put_ahead(next);
         }
     }
@@ -112,7 +111,6 @@ impl<'input, T: BorrowedInput<'input>> Parser<'input, T> {
     fn looks_first(&self) -> bool
         ensures answered { result ≡ true → (self.now.answered ≡ true) × (self.now.over ≡ false) }
         ensures seen { result ≡ true → self.now.peeked ≡ None }
-        ensures behind { EndsBehind self.now.peeked self.now.given self.now.stepper }
         ensures stays { result ≡ false → self.now.answered ≡ true → self.now.over ≡ false
             → is_some self.now.peeked ≡ true }
     {
@@ -126,7 +124,7 @@ impl<'input, T: BorrowedInput<'input>> Parser<'input, T> {
         ensures renumbered { self.new.stepper.renumbered ≡ self.old.stepper.renumbered }
         ensures over { self.new.over ≡ self.old.over }
     {
-        self.forget();
+        drop(self.take_seen());
         self.stepper.give_up();
         drop(self.given.replace(kept(self.alloc, error)));
     }
@@ -170,7 +168,8 @@ impl<'input, T: BorrowedInput<'input>> Parser<'input, T> {
         self.stepper.has_failed() && !self.stepper.can_recover()
     }
 
-    /// The answer, or the error of the source in its place.
+    /// The answer, or the error of the source in its place. Where no other document is there, that counts as directly
+    /// behind one; where one is, that is the next to be dropped.
     fn answer(&mut self, follows: bool) -> Result<bool, ScanError>
         ensures known { (d : Calls) → SeenBy T.unread self.old.peeked self.old.stepper d
             → IfOk result (λ r. SeenBy T.unread self.new.peeked self.new.stepper d) }
@@ -185,22 +184,14 @@ impl<'input, T: BorrowedInput<'input>> Parser<'input, T> {
         ensures renumbered { self.new.stepper.renumbered ≡ self.old.stepper.renumbered }
         ensures onward { GoesOnward T.unread self.old.stepper.scanner.cursor self.new.stepper.scanner.cursor }
     {
-        match self.take_source_error() {
+        match self.stepper.take_source_error() {
             Some(error) => Err(error),
             None => {
-                self.note_answer(follows);
+                self.between = !follows;
+                self.answered = follows;
                 Ok(follows)
             }
         }
-    }
-
-    /// Where no other document is there, that counts as directly behind one; where one is, that is the next to be
-    /// dropped.
-    fn note_answer(&mut self, follows: bool)
-        ensures { self.new ≡ record self.old { between = not follows; answered = follows } }
-    {
-        self.between = !follows;
-        self.answered = follows;
     }
 
     /// The refusal that was given, or that was looked at.
@@ -252,7 +243,7 @@ impl<'input, T: BorrowedInput<'input>> Parser<'input, T> {
         if self.stays(seen) {
             return Ok(());
         }
-        self.forget();
+        drop(self.take_seen());
         if ends(seen) {
             return Ok(());
         }

@@ -17,14 +17,13 @@ use Rattle.granit_layers.specs.Stacking.{is_none_left, top_offset}
 use Rattle.granit_layers.specs.declared.layer.Layer.{Layer}
 use Rattle.granit_load.proofs.GatherLemmas.{never_failed}
 use Rattle.granit_load.specs.Answering.{GivesAllOr, LacksNumber}
-use Rattle.granit_parser.specs.Parsing.{LeavesNumbers}
+use Rattle.granit_parser.specs.Parsing.{LeavesNumbers, Stepping}
 use Rattle.granit_parser.specs.Streams.{bare_text_start}
 use Rattle.granit_replay.specs.Replaying.{Replay, raised_by_all}
 use Rattle.granit_replay.specs.declared.resolver.Included.{Included}
 use Rattle.granit_replay.specs.declared.resolver.Included.TheVariants.{Owned, Borrowed}
 use Rattle.granit_stack.specs.Including.{FailsAbove, GivesAllAbove, ReadsText, first_number, number_above, numbered}
 use Rattle.granit_stack.specs.Including.{numbered_out, replayed, start_of_text, with_fault}
-use Rattle.granit_stepper.specs.Stepping.{Stepping}
 use Rattle.granit_steps.specs.Steps.{StepState, start_from, steps_start}
 use Rattle.granit_steps.specs.Told.{GivesEvents}
 

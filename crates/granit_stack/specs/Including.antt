@@ -19,7 +19,7 @@ use Rattle.granit_replay.specs.Resolving.{missing_resolver}
 use Rattle.granit_replay.specs.declared.resolver.Included.{Included}
 use Rattle.granit_replay.specs.declared.resolver.Included.TheVariants.{Owned, Borrowed}
 use Rattle.granit_stack.specs.Stacked.{Stacked}
-use Rattle.granit_stepper.specs.Offset.{with_offset}
+use Rattle.granit_parser.specs.Numbers.{with_offset}
 use Rattle.granit_steps.specs.Steps.{StepState, start_from, steps_start}
 use Rattle.granit_steps.specs.Told.{GivesEvents}
 

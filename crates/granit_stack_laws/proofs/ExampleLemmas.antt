@@ -32,7 +32,7 @@ use Rattle.granit_stack_laws.specs.Fresh.{Happens, is_included, is_next, is_push
 use Rattle.granit_stack.specs.Including.{Handling, Includes, ReadsText}
 use Rattle.granit_stack.specs.Stacked.{Stacked}
 use Rattle.granit_stack_laws.specs.Life.{IsNumbered, UnreadAny}
-use Rattle.granit_stepper.specs.Offset.{with_offset}
+use Rattle.granit_parser.specs.Numbers.{with_offset}
 use Rattle.granit_steps.specs.Steps.{StepState, steps_start}
 use Rattle.granit_steps.specs.Told.{GivesEvents, gives_end, gives_event}
 use lib.Utf8.{encode}

@@ -20,7 +20,7 @@ use Rattle.granit_lexemes.specs.PlainEvent.{EventKind, PlainEvent, Anchor, Mappi
 use Rattle.granit_machine.specs.Frames.{ParserState}
 use Rattle.granit_parser.proofs.SourceLemmas.{never_told}
 use Rattle.granit_parser.specs.Numbers.{next_number, with_number}
-use Rattle.granit_parser.specs.Parsing.{ParserStepsTo, Parsing, StandsAt, StandsBefore}
+use Rattle.granit_parser.specs.Parsing.{ParserStepsTo, Parsing, StandsAt, StandsBefore, Stepping, StandsIn}
 use Rattle.granit_recovery.specs.Ids.{Counted, counted_more, counted_start, counted_step, counting_from, id_of, id_told}
 use Rattle.granit_restart.specs.Turned.{with_count}
 use Rattle.granit_replay.specs.Replaying.{Replay, behind_next, next_of, raised_by, raised_by_all}
@@ -30,7 +30,6 @@ use Rattle.granit_stack_laws.specs.Fresh.{IdBelow, IdsBelow, Numbering}
 use Rattle.granit_stack_laws.specs.Life.{IsNumbered, IsUnread, UnreadAny}
 use Rattle.granit_refusals.specs.BeforeTurn.{recounted}
 use Rattle.granit_refusals.specs.declared.refusal.Refusal.{Refusal}
-use Rattle.granit_stepper.specs.Stepping.{Stepping, StandsIn}
 use Rattle.granit_steps.specs.Steps.{StepState, next_event}
 
 -- ---- parsers

@@ -5,10 +5,9 @@ use Rattle.granit_base.specs.Place.{Unread}
 use Rattle.granit_layers.specs.declared.kinds.AnyKind.{AnyKind}
 use Rattle.granit_layers.specs.declared.kinds.AnyKind.TheVariants.{First, Second, Third, Fourth}
 use Rattle.granit_lexemes.specs.Here.{Here}
-use Rattle.granit_parser.specs.Parsing.{Parsing}
+use Rattle.granit_parser.specs.Parsing.{Parsing, StandsIn}
 use Rattle.granit_recovery.specs.Ids.{counting_from}
 use Rattle.granit_replay.specs.Replaying.{Replay}
-use Rattle.granit_stepper.specs.Stepping.{StandsIn}
 
 -- nothing was read of it, and nothing looked at
 pub record IsUnread {I : Type 0} (unread : I → Unread → Type 0) (p : Parsing I) : Type 0 where

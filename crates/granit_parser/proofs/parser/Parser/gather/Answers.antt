@@ -1,17 +1,17 @@
-use Rattle.std.proofs.Common.{◌≡◌, [], ◌∷◌, None, Some, Result, Ok, Err, ap, subst, ◌∙◌}
+use Rattle.std.proofs.Common.{◌≡◌, [], ◌∷◌, None, Some, Result, Ok, Err, ap, subst}
 use Rattle.granit_base.specs.declared.place.Span.{Span}
 use Rattle.granit_error.specs.OptionsData.{OptionsData}
 use Rattle.granit_error.specs.Refused.{Refused}
 use Rattle.granit_event.specs.declared.event.Event.{Event}
 use Rattle.granit_event.specs.Events.{plain_event, plain_events}
-use Rattle.granit_parser.proofs.AtOnceLemmas.{ended_given, if_unseen}
 use Rattle.granit_parser.proofs.GatherLemmas.{gathered_first, none_numbered, went, went_err, went_ok}
 use Rattle.granit_parser.proofs.SendLemmas.{TookOr}
 use Rattle.granit_parser.proofs.SourceLemmas.{moves_seen, never_told}
 use Rattle.granit_parser.proofs.parser.Parser.gather.Goals as goal
 use Rattle.granit_parser.specs.Gathering.{Gathered, GathersAll}
 use Rattle.granit_parser.specs.Parsing.{KeepsGiven, none_given}
-use Rattle.granit_parser.specs.Sources.{TellsSource}
+use Rattle.granit_sourced.proofs.AtOnceLemmas.{ended_given, if_unseen}
+use Rattle.granit_sourced.specs.Sources.{TellsSource}
 
 pub returns-in-None-clause-known : goal.returns-in-None-clause-known
 returns-in-None-clause-known g c = λ m at.
@@ -80,7 +80,7 @@ returns-in-Some-Ok-clause-failed g c = went_err c.gather_behind.result
     (g.T.Input.origin c.gather_behind.new.self.stepper.scanner.cursor.input)
     (went g.T.Input.left g.T.Input.origin c.in-Some-Ok.field-0 (Ok c.in-Some-Ok.event) c.args.self.now
     c.next_event.new.self c.in-Some-Ok.field-0-is c.in-Some-Ok.ensures.seen c.in-Some-Ok.ensures.moves)
-    c.gather_behind.ensures.failed
+    c.gather_behind.ensures.goes
 
 pub returns-in-Some-Err-clause-given : goal.returns-in-Some-Err-clause-given
 returns-in-Some-Err-clause-given g c =

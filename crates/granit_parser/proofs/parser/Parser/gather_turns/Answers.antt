@@ -1,18 +1,18 @@
-use Rattle.std.proofs.Common.{◌≡◌, Bool, true, false, List, [], Some}
-use Rattle.std.proofs.Common.{Ok, Err, refl, sym, ap, subst, ◌∙◌, ◌⊎◌, inl, arith}
+use Rattle.std.proofs.Common.{Bool, true, false, [], Some, Ok, Err, length, refl, sym, ap, subst, ◌∙◌, ◌⊎◌, arith}
+use Rattle.granit_cursor.specs.Reading.{GoesOnward}
 use Rattle.granit_error.specs.OptionsData.{OptionsData}
-use Rattle.granit_error.specs.Refused.{Refused}
 use Rattle.granit_lexemes.specs.Outcome.{Fails}
-use Rattle.granit_lexemes.specs.PlainEvent.{PlainEvent}
 use Rattle.granit_input.proofs.OriginLemmas.{goes_nowhere, goes_on}
+use Rattle.granit_input.specs.Origin.{Goes}
+use Rattle.granit_parser.specs.Gathering.{WaitsGathered}
 use Rattle.granit_parser.proofs.GatherLemmas.{gathers_all, gathers_more, gathers_refusal}
-use Rattle.granit_parser.proofs.SourceLemmas.{giving_on, goes_giving, never_told}
+use Rattle.granit_parser.proofs.SourceLemmas.{never_told}
 use Rattle.granit_parser.proofs.parser.Parser.gather_turns.Goals as goal
-use Rattle.granit_parser.specs.Gathering.{LeadsOut}
 use Rattle.granit_parser.specs.Parsing.{Parsing}
-use Rattle.granit_parser.specs.Sources.{TellsSource}
 use Rattle.granit_refused.specs.Answered.{why}
 use Rattle.granit_restart.specs.Skipping.{with_pending}
+use Rattle.granit_sourced.proofs.SourceLemmas.{giving_on}
+use Rattle.granit_sourced.specs.Sources.{TellsSource}
 use Rattle.granit_stepper.specs.Gathering.{GathersBehind}
 use Rattle.granit_stepper.specs.Numbers.{RefusesNumber}
 use Rattle.granit_stepper.specs.Stepping.{StandsIn}
@@ -32,98 +32,124 @@ pub returns-in-Ok-false-clause-known : goal.returns-in-Ok-false-clause-known
 returns-in-Ok-false-clause-known g c = λ m before.
     let unread = g.T.Input.unread in
     let o = c.args.self.now.stepper.scanner.options in
-    let now = c.turns.self.stepper in
-    let after = c.more_events.new.self.stepper in
-    rw c.note_end.ensures (gathers_all unread o m now after
+    let now = c.self.inside.stepper in
+    let after = c.more_events.new.stepper in
+    let same = ap (λ (p : Parsing _). p.stepper.scanner.options) c.self.view_is ∙ c.turns.invariant.same in
+    gathers_all unread o m now after
     (λ n. RefusesNumber after.renumbered o (with_pending [] n)) c.in-Ok-false.ensures.first
     (λ n at told. subst (λ (p : OptionsData). GathersBehind (Ok false) (StandsIn unread after) p n
-    (RefusesNumber after.renumbered p (with_pending [] n))) c.turns.invariant.same
+    (RefusesNumber after.renumbered p (with_pending [] n))) same
     (never_told (subst (λ (b : Bool). GathersBehind (Ok b) (StandsIn unread after) now.scanner.options n
     (RefusesNumber after.renumbered now.scanner.options (with_pending [] n))
     ⊎ TellsSource {X = Bool} g.T.Input.origin (Some (Ok b)) after.scanner.cursor) c.in-Ok-false.field-0-test
     (c.in-Ok-false.ensures.known n at told))))
+    (subst (λ (p : Parsing _). WaitsGathered unread o m p.stepper) (sym c.self.view_is)
     (c.turns.invariant.gathered m before).1)
 
 pub returns-in-Err-clause-known : goal.returns-in-Err-clause-known
 returns-in-Err-clause-known g c = λ m before.
     let unread = g.T.Input.unread in
     let o = c.args.self.now.stepper.scanner.options in
-    let now = c.turns.self.stepper in
-    let mid = c.more_events.new.self in
+    let after = c.more_events.new.stepper in
+    let mid : Parsing _ = record {
+      stepper = after;
+      peeked = c.self.inside.peeked;
+      given = c.self.inside.given;
+      starved = c.self.inside.starved;
+      between = c.self.inside.between;
+      over = c.self.inside.over;
+      answered = c.self.inside.answered;
+    } in
     let e = why c.more_events.new.fault c.in-Err.refused in
-    rw (c.take_waiting.ensures.rest, c.note_refusal.ensures.rest, c.error_of-error.ensures)
-    (gathers_refusal unread o m g.T.Input.origin now mid e
+    let same = ap (λ (p : Parsing _). p.stepper.scanner.options) c.self.view_is ∙ c.turns.invariant.same in
+    rw (c.note_refusal.ensures.rest, c.take_waiting.ensures.rest, c.error_of-error.ensures)
+    (gathers_refusal unread o m g.T.Input.origin c.self.inside.stepper mid e
     (λ n at told. subst (λ (p : OptionsData). (Fails e (settle p (with_pending [] n))
-    ⊎ RefusesNumber mid.stepper.renumbered p (with_pending [] n) e)
-    ⊎ TellsSource {X = Bool} g.T.Input.origin (Some (Err e)) mid.stepper.scanner.cursor) c.turns.invariant.same
+    ⊎ RefusesNumber after.renumbered p (with_pending [] n) e)
+    ⊎ TellsSource {X = Bool} g.T.Input.origin (Some (Err e)) after.scanner.cursor) same
     (c.in-Err.ensures.known n at told))
-    (c.turns.invariant.gathered m before).1)
+    (subst (λ (p : Parsing _). WaitsGathered unread o m p.stepper) (sym c.self.view_is)
+    (c.turns.invariant.gathered m before).1))
 
 pub turns-preserved : goal.turns-preserved
 turns-preserved g c =
     let unread = g.T.Input.unread in
     let o = c.args.self.now.stepper.scanner.options in
-    let now = c.turns.self.stepper in
-    let after = c.more_events.new.self.stepper in
+    let now = c.self.inside.stepper in
+    let after = c.more_events.new.stepper in
+    let same = ap (λ (p : Parsing _). p.stepper.scanner.options) c.self.view_is ∙ c.turns.invariant.same in
     record {
       gathered = λ m before. let w = c.turns.invariant.gathered m before in
           let more = gathers_more unread o m now after
           (λ n. RefusesNumber after.renumbered o (with_pending [] n)) c.in-Ok-true.ensures.first
           (λ n at told. subst (λ (p : OptionsData). GathersBehind (Ok true) (StandsIn unread after) p n
-          (RefusesNumber after.renumbered p (with_pending [] n))) c.turns.invariant.same
+          (RefusesNumber after.renumbered p (with_pending [] n))) same
           (never_told (subst (λ (b : Bool). GathersBehind (Ok b) (StandsIn unread after) now.scanner.options n
           (RefusesNumber after.renumbered now.scanner.options (with_pending [] n))
           ⊎ TellsSource {X = Bool} g.T.Input.origin (Some (Ok b)) after.scanner.cursor) c.in-Ok-true.field-0-test
           (c.in-Ok-true.ensures.known n at told))))
-          w.1 in
-          (omega (arith, w.0, more.0), more.1);
-      seen = c.in-Ok-true.ensures.peeked ∙ c.turns.invariant.seen;
-      same = c.in-Ok-true.ensures.options ∙ c.turns.invariant.same;
-      renumbered = c.in-Ok-true.ensures.renumbered ∙ c.turns.invariant.renumbered;
-      goes = goes_on _ _ _ c.turns.invariant.goes c.in-Ok-true.ensures.goes;
-      onward = λ start before. c.in-Ok-true.ensures.onward start (c.turns.invariant.onward start before);
+          (subst (λ (p : Parsing _). WaitsGathered unread o m p.stepper) (sym c.self.view_is) w.1) in
+          let long = ap (λ (p : Parsing _). length p.stepper.parser.given) c.self.view_is in
+          (omega (arith, w.0, long, more.0), more.1);
+      seen = ap (λ (p : Parsing _). p.peeked) c.self.view_is ∙ c.turns.invariant.seen;
+      same = c.in-Ok-true.ensures.options ∙ same;
+      renumbered = c.in-Ok-true.ensures.renumbered ∙ ap (λ (p : Parsing _). p.stepper.renumbered) c.self.view_is
+          ∙ c.turns.invariant.renumbered;
+      goes = goes_on _ _ _
+          (subst (λ (p : Parsing _). Goes (g.T.Input.origin c.args.self.now.stepper.scanner.cursor.input)
+          (g.T.Input.origin p.stepper.scanner.cursor.input)) (sym c.self.view_is) c.turns.invariant.goes)
+          c.in-Ok-true.ensures.goes;
+      onward = λ start before. c.in-Ok-true.ensures.onward start
+          (subst (λ (p : Parsing _). GoesOnward g.T.Input.unread c.args.self.now.stepper.scanner.cursor
+          p.stepper.scanner.cursor) (sym c.self.view_is) c.turns.invariant.onward start before);
     }
 
 pub returns-in-Ok-false-clause-goes : goal.returns-in-Ok-false-clause-goes
-returns-in-Ok-false-clause-goes g c = rw c.note_end.ensures
-    (goes_on _ _ _ c.turns.invariant.goes c.in-Ok-false.ensures.goes)
+returns-in-Ok-false-clause-goes g c = goes_on _ _ _
+    (subst (λ (p : Parsing _). Goes (g.T.Input.origin c.args.self.now.stepper.scanner.cursor.input)
+    (g.T.Input.origin p.stepper.scanner.cursor.input)) (sym c.self.view_is) c.turns.invariant.goes)
+    c.in-Ok-false.ensures.goes
 
 pub returns-in-Ok-false-clause-onward : goal.returns-in-Ok-false-clause-onward
-returns-in-Ok-false-clause-onward g c = rw c.note_end.ensures
-    (λ start before. c.in-Ok-false.ensures.onward start (c.turns.invariant.onward start before))
+returns-in-Ok-false-clause-onward g c = λ start before. c.in-Ok-false.ensures.onward start
+    (subst (λ (p : Parsing _). GoesOnward g.T.Input.unread c.args.self.now.stepper.scanner.cursor
+    p.stepper.scanner.cursor) (sym c.self.view_is) c.turns.invariant.onward start before)
 
 pub returns-in-Ok-false-clause-renumbered : goal.returns-in-Ok-false-clause-renumbered
-returns-in-Ok-false-clause-renumbered g c = rw c.note_end.ensures
-    (c.in-Ok-false.ensures.renumbered ∙ c.turns.invariant.renumbered)
-
-pub returns-in-Err-clause-renumbered : goal.returns-in-Err-clause-renumbered
-returns-in-Err-clause-renumbered g c = rw (c.take_waiting.ensures.rest, c.note_refusal.ensures.rest)
-    (c.in-Err.ensures.renumbered ∙ c.turns.invariant.renumbered)
-
-pub returns-in-Err-clause-failed : goal.returns-in-Err-clause-failed
-returns-in-Err-clause-failed g c = rw (c.take_waiting.ensures.rest, c.note_refusal.ensures.rest)
-    (giving_on _ _ _ c.turns.invariant.goes c.in-Err.ensures.goes)
-
-pub returns-in-Err-clause-onward : goal.returns-in-Err-clause-onward
-returns-in-Err-clause-onward g c = rw (c.take_waiting.ensures.rest, c.note_refusal.ensures.rest)
-    (λ start before. c.in-Err.ensures.onward start (c.turns.invariant.onward start before))
-
-pub returns-in-Err-clause-given : goal.returns-in-Err-clause-given
-returns-in-Err-clause-given g c =
-    let kept = c.note_refusal.ensures.given in
-    (kept.0, ap (λ (p : Parsing _). p.given) c.take_waiting.ensures.rest ∙ kept.1)
+returns-in-Ok-false-clause-renumbered g c = c.in-Ok-false.ensures.renumbered
+    ∙ ap (λ (p : Parsing _). p.stepper.renumbered) c.self.view_is ∙ c.turns.invariant.renumbered
 
 pub returns-in-Ok-false-clause-options : goal.returns-in-Ok-false-clause-options
-returns-in-Ok-false-clause-options g c = rw c.note_end.ensures
-    (c.in-Ok-false.ensures.options ∙ c.turns.invariant.same)
-
-pub returns-in-Err-clause-options : goal.returns-in-Err-clause-options
-returns-in-Err-clause-options g c = rw (c.take_waiting.ensures.rest, c.note_refusal.ensures.rest)
-    (c.in-Err.ensures.options ∙ c.turns.invariant.same)
+returns-in-Ok-false-clause-options g c = c.in-Ok-false.ensures.options
+    ∙ ap (λ (p : Parsing _). p.stepper.scanner.options) c.self.view_is ∙ c.turns.invariant.same
 
 pub returns-in-Ok-false-clause-seen : goal.returns-in-Ok-false-clause-seen
-returns-in-Ok-false-clause-seen g c = rw c.note_end.ensures
-    (c.in-Ok-false.ensures.peeked ∙ c.turns.invariant.seen)
+returns-in-Ok-false-clause-seen g c = ap (λ (p : Parsing _). p.peeked) c.self.view_is ∙ c.turns.invariant.seen
+
+pub returns-in-Err-clause-renumbered : goal.returns-in-Err-clause-renumbered
+returns-in-Err-clause-renumbered g c = rw (c.note_refusal.ensures.rest, c.take_waiting.ensures.rest)
+    (c.in-Err.ensures.renumbered ∙ ap (λ (p : Parsing _). p.stepper.renumbered) c.self.view_is
+    ∙ c.turns.invariant.renumbered)
+
+pub returns-in-Err-clause-options : goal.returns-in-Err-clause-options
+returns-in-Err-clause-options g c = rw (c.note_refusal.ensures.rest, c.take_waiting.ensures.rest)
+    (c.in-Err.ensures.options ∙ ap (λ (p : Parsing _). p.stepper.scanner.options) c.self.view_is
+    ∙ c.turns.invariant.same)
+
+pub returns-in-Err-clause-goes : goal.returns-in-Err-clause-goes
+returns-in-Err-clause-goes g c = rw (c.note_refusal.ensures.rest, c.take_waiting.ensures.rest) (giving_on _ _ _
+    (subst (λ (p : Parsing _). Goes (g.T.Input.origin c.args.self.now.stepper.scanner.cursor.input)
+    (g.T.Input.origin p.stepper.scanner.cursor.input)) (sym c.self.view_is) c.turns.invariant.goes)
+    c.in-Err.ensures.goes)
+
+pub returns-in-Err-clause-onward : goal.returns-in-Err-clause-onward
+returns-in-Err-clause-onward g c = rw (c.note_refusal.ensures.rest, c.take_waiting.ensures.rest)
+    (λ start before. c.in-Err.ensures.onward start
+    (subst (λ (p : Parsing _). GoesOnward g.T.Input.unread c.args.self.now.stepper.scanner.cursor
+    p.stepper.scanner.cursor) (sym c.self.view_is) c.turns.invariant.onward start before))
+
+pub returns-in-Err-clause-given : goal.returns-in-Err-clause-given
+returns-in-Err-clause-given g c = let kept = c.note_refusal.ensures.given in (kept.0, kept.1)
 
 pub returns-clause-known : goal.returns-clause-known
 returns-clause-known g c = λ m before.

@@ -1,5 +1,5 @@
-use Rattle.std.proofs.Common.{◌≡◌, ◌∙◌, Result, Ok, Err, Some, None, ap, true, false, refl, rules, subst, sym}
-use Rattle.std.proofs.Common.{arith, inl, inr}
+use Rattle.std.proofs.Common.{◌≡◌, ◌∙◌, Result, Ok, Err, Some, None, ap, true, false, refl, rules, subst, sym, arith}
+use Rattle.std.proofs.Common.{inl, inr}
 use Rattle.granit_base.specs.declared.place.Span.{Span}
 use Rattle.granit_error.specs.Refused.{Refused}
 use Rattle.granit_event.specs.declared.event.Event.{Event}
@@ -8,13 +8,14 @@ use Rattle.granit_parser.proofs.LedLemmas.{CalledOr, led_event, led_fault, led_l
 use Rattle.granit_parser.proofs.MetLemmas.{met_behind, quiet_first, quiet_on, unmet}
 use Rattle.granit_parser.proofs.SendLemmas.{TookOr, sent_none, sent_event, sent_last, sent_all, sent_fault}
 use Rattle.granit_parser.proofs.SendLemmas.{sent_no_more}
-use Rattle.granit_parser.proofs.SourceLemmas.{goes_giving, moves_behind}
+use Rattle.granit_parser.proofs.SourceLemmas.{moves_behind}
 use Rattle.granit_parser.proofs.WantLemmas.{answered_none, counts_all, counts_more, counts_none, starves_by}
 use Rattle.granit_parser.proofs.parser.Parser.load_rest.Goals as goal
 use Rattle.granit_parser.specs.Parsing.{KeepsGiven}
 use Rattle.granit_receivers.specs.Sending.{is_last}
 use Rattle.granit_receivers.proofs.TakingLemmas.{took_one}
 use Rattle.granit_receivers.specs.Taking.{Told, Took}
+use Rattle.granit_sourced.proofs.SourceLemmas.{goes_giving}
 
 pub events-init : goal.events-init
 events-init g c = let r = g.R.SpannedEventReceiver in record {

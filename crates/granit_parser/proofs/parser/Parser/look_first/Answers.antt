@@ -3,8 +3,11 @@ use Rattle.granit_parser.proofs.HeldLemmas.{waiting_shows}
 use Rattle.granit_parser.proofs.InLemmas.{closed_failed, holds_shown}
 use Rattle.granit_parser.proofs.NextLemmas.{look_stays, shows_before, shows_first}
 use Rattle.granit_parser.proofs.parser.Parser.look_first.Goals as goal
-use Rattle.granit_parser.specs.Holding.{WaitsBehind}
-use Rattle.granit_parser.specs.Parsing.{Next}
+use Rattle.granit_parser.specs.Holding.{ParserHolds, WaitsBehind}
+use Rattle.granit_parser.specs.Parsing.{Next, Parsing}
+use Rattle.granit_parser.specs.Recovering.{ParserIn}
+use Rattle.granit_recovery.specs.Streams.{ReachedByCalls}
+use Rattle.granit_stepper.specs.Stepping.{Stepping}
 
 pub returns-then-looks_first-clause-calm : goal.returns-then-looks_first-clause-calm
 returns-then-looks_first-clause-calm g c = λ calm.
@@ -18,12 +21,20 @@ returns-then-looks_first-clause-over g c = λ over.
 
 pub returns-then-looks_first-clause-failed : goal.returns-then-looks_first-clause-failed
 returns-then-looks_first-clause-failed g c = λ failed.
-    let p = c.args.self.now in
+    let p : Parsing _ = record {
+      stepper = c.self.inside.stepper;
+      peeked = c.self.inside.peeked;
+      given = c.self.inside.given;
+      starved = c.self.inside.starved;
+      between = c.self.inside.between;
+      over = c.self.inside.over;
+      answered = c.self.inside.answered;
+    } in
     let t = c.step_event in
-    let x = t.ensures.over failed in
-    c.put_ahead.ensures ∙ look_stays g.T.Input.unread p t.new.self t.new.next
-    (c.looks_first.ensures.seen c.if-looks_first.true) t.ensures.given t.ensures.between t.ensures.going
-    t.ensures.options x.1 x.0
+    let x = t.ensures.over (ap (λ (q : Parsing _). q.stepper.failed) c.self.view_is ∙ failed) in
+    c.put_ahead.ensures ∙ look_stays g.T.Input.unread p (record p { stepper = t.new.stepper }) t.new.next
+    (ap (λ (q : Parsing _). q.peeked) c.self.view_is ∙ c.looks_first.ensures.seen c.if-looks_first.true) refl refl refl
+    t.ensures.options (ap (λ (s : Stepping _). record p { stepper = s }) x.1) x.0 ∙ c.self.view_is
 
 pub returns-then-looks_first-clause-closed : goal.returns-then-looks_first-clause-closed
 returns-then-looks_first-clause-closed g c = λ calls closed at.
@@ -33,15 +44,26 @@ returns-then-looks_first-clause-closed g c = λ calls closed at.
 
 pub returns-then-looks_first-clause-next : goal.returns-then-looks_first-clause-next
 returns-then-looks_first-clause-next g c = λ calls reached at answered opened.
-    let p = c.args.self.now in
+    let p : Parsing _ = record {
+      stepper = c.self.inside.stepper;
+      peeked = c.self.inside.peeked;
+      given = c.self.inside.given;
+      starved = c.self.inside.starved;
+      between = c.self.inside.between;
+      over = c.self.inside.over;
+      answered = c.self.inside.answered;
+    } in
     let t = c.step_event in
-    rw c.put_ahead.ensures (shows_first g.T.Input.unread p t.new.self t.new.next
-    (c.looks_first.ensures.seen c.if-looks_first.true) t.ensures.given t.ensures.between t.ensures.going
-    t.ensures.options c.looks_first.ensures.behind t.ensures.calls t.ensures.refused t.ensures.lost
-    (c.an_open_call_gives_something.ensures p.stepper.scanner.options) calls reached at opened)
+    let none = ap (λ (q : Parsing _). q.peeked) c.self.view_is
+    ∙ c.looks_first.ensures.seen c.if-looks_first.true in
+    rw c.put_ahead.ensures (shows_first g.T.Input.unread p (record p { stepper = t.new.stepper }) t.new.next
+    none refl refl refl t.ensures.options c.self.invariant.0 t.ensures.calls t.ensures.refused t.ensures.lost
+    (c.an_open_call_gives_something.ensures p.stepper.scanner.options) calls
+    (subst (λ (q : Parsing _). ReachedByCalls q.stepper.scanner.options calls) (sym c.self.view_is) reached)
+    (subst (λ (q : Parsing _). ParserIn g.T.Input.unread q calls) (sym c.self.view_is) at) opened)
 
 pub returns-then-looks_first-clause-onward : goal.returns-then-looks_first-clause-onward
-returns-then-looks_first-clause-onward g c = rw c.put_ahead.ensures c.step_event.ensures.moves.2
+returns-then-looks_first-clause-onward g c = rw (c.put_ahead.ensures, ← c.self.view_is) c.step_event.ensures.moves.2
 
 pub returns-else-looks_first-clause-next : goal.returns-else-looks_first-clause-next
 returns-else-looks_first-clause-next g c = λ calls reached at answered opened.
@@ -52,14 +74,25 @@ returns-else-looks_first-clause-next g c = λ calls reached at answered opened.
 
 pub returns-then-looks_first-clause-holds : goal.returns-then-looks_first-clause-holds
 returns-then-looks_first-clause-holds g c = λ calls f holds answered going.
-    let p = c.args.self.now in
+    let p : Parsing _ = record {
+      stepper = c.self.inside.stepper;
+      peeked = c.self.inside.peeked;
+      given = c.self.inside.given;
+      starved = c.self.inside.starved;
+      between = c.self.inside.between;
+      over = c.self.inside.over;
+      answered = c.self.inside.answered;
+    } in
     let t = c.step_event in
-    let none = c.looks_first.ensures.seen c.if-looks_first.true in
-    rw c.put_ahead.ensures (waiting_shows g.T.Input.unread p (record (t.new.self) { peeked = t.new.next }) calls f holds
+    let none = ap (λ (q : Parsing _). q.peeked) c.self.view_is
+    ∙ c.looks_first.ensures.seen c.if-looks_first.true in
+    let there = subst (λ (q : Parsing _). ParserHolds g.T.Input.unread q calls f) (sym c.self.view_is) holds in
+    rw c.put_ahead.ensures (waiting_shows g.T.Input.unread p
+    (record p { stepper = t.new.stepper; peeked = t.new.next }) calls f there
     t.ensures.options t.ensures.renumbered t.new.next
     (t.ensures.waits calls.steps f
-    (subst (λ (w : Next). WaitsBehind g.T.Input.unread w p.stepper calls.steps f) none holds.waits))
-    refl t.ensures.between t.ensures.going)
+    (subst (λ (w : Next). WaitsBehind g.T.Input.unread w p.stepper calls.steps f) none there.waits))
+    refl refl refl)
 
 pub returns-else-looks_first-clause-holds : goal.returns-else-looks_first-clause-holds
 returns-else-looks_first-clause-holds g c = λ calls f holds answered going.

@@ -1,4 +1,4 @@
-use Rattle.std.proofs.Common.{◌≡◌, inl, inr, ap, subst, sym, ◌∙◌}
+use Rattle.std.proofs.Common.{inl, inr, ap, subst, sym, ◌∙◌}
 use Rattle.granit_parser.proofs.AloneLemmas.{ends_alone}
 use Rattle.granit_parser.proofs.HeldLemmas.{waiting_gives}
 use Rattle.granit_parser.proofs.InLemmas.{call_gives, closed_stays, never_none, noted_none, open_seen}
@@ -6,10 +6,10 @@ use Rattle.granit_parser.proofs.ResumedLemmas.{resumed_reached, resumes}
 use Rattle.granit_parser.proofs.StartLaws.{ends_told}
 use Rattle.granit_parser.proofs.TextLemmas.{ends_text}
 use Rattle.granit_parser.proofs.parser.Parser.next_event.Goals as goal
-use Rattle.granit_parser.specs.Holding.{ReadsHeld}
 use Rattle.granit_parser.specs.Parsing.{Parsing}
-use Rattle.granit_parser.specs.Recovering.{ReadsNext, notes_between, notes_over}
-use Rattle.granit_parser.specs.Sources.{TellsSource}
+use Rattle.granit_parser.specs.Recovering.{notes_between, notes_over}
+use Rattle.granit_sourced.specs.Going.{ReadsHeld, ReadsNext}
+use Rattle.granit_sourced.specs.Sources.{TellsSource}
 use Rattle.granit_stepper.specs.Stepping.{Stepping}
 
 pub returns-clause-text : goal.returns-clause-text
@@ -45,9 +45,9 @@ returns-clause-calls g c = λ calls reached is at.
     elim (t.ensures.calls calls reached (open_seen g.T.Input.unread p calls is at)) [
       | inl reads ↦ inl (call_gives g.T.Input.unread t.new.next q calls p.between p.over is (at.between is) at.over
           (subst (λ (s : Stepping _). ReadsNext g.T.Input.unread t.new.next s calls) (sym same) reads)
-          (ap (λ (x : Parsing _). x.peeked) c.note.ensures.rest ∙ t.ensures.peeked)
-          (c.note.ensures.between ∙ ap (notes_between t.new.next) t.ensures.between)
-          (c.note.ensures.over ∙ ap (notes_over t.new.next) t.ensures.going)
+          (ap (λ (x : Parsing _). x.peeked) c.note.ensures.rest ∙ ap (λ (x : Parsing _). x.peeked) t.ensures.rest)
+          (c.note.ensures.between ∙ ap (λ (x : Parsing _). notes_between t.new.next x.between) t.ensures.rest)
+          (c.note.ensures.over ∙ ap (λ (x : Parsing _). notes_over t.new.next x.over) t.ensures.rest)
           (never_none q.stepper.scanner.options p.stepper.scanner.options calls
           (ap (λ (s : Stepping _). s.scanner.options) same ∙ t.ensures.options)
           (c.an_open_call_gives_something.ensures p.stepper.scanner.options) reached is))
@@ -75,8 +75,8 @@ returns-clause-closed g c = λ calls closed at.
     noted_none c.args.self.now t.new.self q t.new.next x.0 x.1 c.note.ensures.rest c.note.ensures.between
     c.note.ensures.over c.note.ensures.answered c.note.ensures.given c.note.ensures.starved)
     (rw c.note.ensures.rest t.ensures.seen)
-    (ap (λ (x : Parsing _). x.peeked) c.note.ensures.rest ∙ t.ensures.peeked)
-    (c.note.ensures.over ∙ ap (notes_over t.new.next) t.ensures.going)
+    (ap (λ (x : Parsing _). x.peeked) c.note.ensures.rest ∙ ap (λ (x : Parsing _). x.peeked) t.ensures.rest)
+    (c.note.ensures.over ∙ ap (λ (x : Parsing _). notes_over t.new.next x.over) t.ensures.rest)
 
 pub returns-clause-held : goal.returns-clause-held
 returns-clause-held g c = λ calls f holds.
@@ -90,9 +90,9 @@ returns-clause-held g c = λ calls f holds.
           (ap (λ (s : Stepping _). s.scanner.options) same ∙ t.ensures.options)
           (ap (λ (s : Stepping _). s.renumbered) same ∙ t.ensures.renumbered) t.new.next
           (subst (λ (s : Stepping _). ReadsHeld unread t.new.next s calls.steps f) (sym same) reads)
-          (ap (λ (x : Parsing _). x.peeked) c.note.ensures.rest ∙ t.ensures.peeked)
-          (c.note.ensures.between ∙ ap (notes_between t.new.next) t.ensures.between)
-          (c.note.ensures.over ∙ ap (notes_over t.new.next) t.ensures.going))
+          (ap (λ (x : Parsing _). x.peeked) c.note.ensures.rest ∙ ap (λ (x : Parsing _). x.peeked) t.ensures.rest)
+          (c.note.ensures.between ∙ ap (λ (x : Parsing _). notes_between t.new.next x.between) t.ensures.rest)
+          (c.note.ensures.over ∙ ap (λ (x : Parsing _). notes_over t.new.next x.over) t.ensures.rest))
       | inr told ↦ inr (subst (λ (s : Stepping _). TellsSource g.T.Input.origin t.new.next s.scanner.cursor) (sym same)
           told)
     ]

@@ -1,14 +1,12 @@
-use Rattle.std.proofs.Common.{◌≡◌, inl, inr, Bool, Ok, Err, ap, sym, subst, ◌∙◌}
+use Rattle.std.proofs.Common.{inl, inr, Bool, Ok, Err, ap, sym, subst, ◌∙◌}
 use Rattle.std.specs.Prelude.{IfSome}
-use Rattle.granit_error.specs.Refused.{Refused}
 use Rattle.granit_parser.proofs.HeldProceedLemmas.{held_next, proceeds_err, proceeds_ok}
 use Rattle.granit_parser.proofs.NextLemmas.{from_same, proceeds_next}
 use Rattle.granit_parser.proofs.ProceedLemmas.{given_up}
 use Rattle.granit_parser.proofs.parser.Parser.proceed_next_document.Goals as goal
 use Rattle.granit_parser.specs.Holding.{ParserHolds}
 use Rattle.granit_parser.specs.Parsing.{Parsing}
-use Rattle.granit_parser.specs.Recovering.{GivesSeen, LooksNoMore, ProceedsHeld}
-use Rattle.granit_parser.specs.Sources.{IsSourceError}
+use Rattle.granit_parser.specs.Recovering.{GivesSeen, ProceedsHeld}
 use Rattle.granit_receivers.specs.Kept.{GivesAgain}
 use Rattle.granit_recovery.specs.Streams.{ReachedByCalls}
 

@@ -48,7 +48,7 @@ returns-then-ends-clause-known g c = λ calls reached at over refusal end.
     let p = c.args.self.now in
     let o = p.stepper.scanner.options in
     end_dropped g.T.Input.unread p calls reached at over refusal (c.a_look_tells_where_recovery_asks.ensures.here o)
-    (c.calls_go_by_turns.ensures o) c.forget.new.self c.forget.ensures
+    (c.calls_go_by_turns.ensures o) c.take_seen.new.self c.take_seen.ensures.rest
     (sym c.has_failed.ensures ∙ c.if-has_failed.false)
     (ap (λ s. p.between && not (seeing.seen_starts_document s)) (sym c.seen-seen.ensures)
     ∙ sym c.stays.ensures ∙ c.if-stays.false)
@@ -58,7 +58,7 @@ pub returns-clause-known : goal.returns-clause-known
 returns-clause-known g c = λ calls reached at over refusal end.
     let p = c.args.self.now in
     let o = p.stepper.scanner.options in
-    let same = c.self-2.view_is ∙ c.forget.ensures in
+    let same = c.self-2.view_is ∙ c.take_seen.ensures.rest in
     document_dropped g.T.Input.unread p calls reached at over refusal
     (c.a_look_tells_where_recovery_asks.ensures.here o) (c.calls_go_by_turns.ensures o) c.self-2.inside.stepper
     (ap (λ (x : Parsing _). x.stepper) same) (record {
@@ -109,14 +109,15 @@ pub returns-then-ends-clause-held : goal.returns-then-ends-clause-held
 returns-then-ends-clause-held g c = λ calls f holds going end.
     let unread = g.T.Input.unread in
     let p = c.args.self.now in
-    let q = c.forget.new.self in
+    let q = c.take_seen.new.self in
     let stays : stays_by p.between p.peeked ≡ false =
     ap (λ s. p.between && not (seeing.seen_starts_document s)) (sym c.seen-seen.ensures)
     ∙ sym c.stays.ensures ∙ c.if-stays.false in
     inl (subst (λ (b : Bool). SkipsWaiting unread p.stepper.scanner.cursor (is_some p.peeked) f
     (held_behind b f calls.steps) q) (sym stays)
     (end_goes unread p.stepper.scanner.cursor (is_some p.peeked) p.peeked p.stepper q calls.steps f
-    (ap (λ (x : Parsing _). x.stepper) c.forget.ensures) (ap (λ (x : Parsing _). x.peeked) c.forget.ensures)
+    (ap (λ (x : Parsing _). x.stepper) c.take_seen.ensures.rest)
+    (ap (λ (x : Parsing _). x.peeked) c.take_seen.ensures.rest)
     (ap seeing.seen_ends_document (sym c.seen-seen.ensures) ∙ sym c.ends.ensures ∙ c.if-ends.true) holds.waits))
 
 pub returns-then-ends-clause-looked : goal.returns-then-ends-clause-looked
@@ -125,14 +126,14 @@ returns-then-ends-clause-looked g c = λ going.
     let stays : stays_by p.between p.peeked ≡ false =
     ap (λ s. p.between && not (seeing.seen_starts_document s)) (sym c.seen-seen.ensures)
     ∙ sym c.stays.ensures ∙ c.if-stays.false in
-    ap (λ (x : Parsing _). x.peeked) c.forget.ensures ∙ ap (λ (b : Bool). stays_seen b p.peeked) (sym stays)
+    ap (λ (x : Parsing _). x.peeked) c.take_seen.ensures.rest ∙ ap (λ (b : Bool). stays_seen b p.peeked) (sym stays)
 
 pub returns-clause-held : goal.returns-clause-held
 returns-clause-held g c = λ calls f holds going end.
     let unread = g.T.Input.unread in
     let p = c.args.self.now in
     let o = p.stepper.scanner.options in
-    let same = c.self-2.view_is ∙ c.forget.ensures in
+    let same = c.self-2.view_is ∙ c.take_seen.ensures.rest in
     let stepper : c.self-2.inside.stepper ≡ p.stepper = ap (λ (x : Parsing _). x.stepper) same in
     let none : c.self-2.inside.peeked ≡ None = ap (λ (x : Parsing _). x.peeked) same in
     let q : Parsing _ = record {
@@ -173,7 +174,7 @@ returns-clause-held g c = λ calls f holds going end.
 pub returns-clause-looked : goal.returns-clause-looked
 returns-clause-looked g c = λ going.
     let p = c.args.self.now in
-    let same = c.self-2.view_is ∙ c.forget.ensures in
+    let same = c.self-2.view_is ∙ c.take_seen.ensures.rest in
     let stays : stays_by p.between p.peeked ≡ false =
     ap (λ s. p.between && not (seeing.seen_starts_document s)) (sym c.seen-seen.ensures)
     ∙ sym c.stays.ensures ∙ c.if-stays.false in

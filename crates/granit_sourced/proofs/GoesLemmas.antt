@@ -1,6 +1,6 @@
 -- A stepper goes where the machine's calls lead.
-use Rattle.std.proofs.Common.{◌≡◌, ◌⊎◌, inl, inr, Bool, true, false, List, [], ◌∷◌, Option, Some, None}
-use Rattle.std.proofs.Common.{Result, Ok, Err, refl, sym, ap, subst, ◌∙◌}
+use Rattle.std.proofs.Common.{◌≡◌, ◌⊎◌, inl, inr, Bool, true, false, List, [], ◌∷◌, Option, Some, None, Result, Ok, Err}
+use Rattle.std.proofs.Common.{refl, sym, ap, subst, ◌∙◌}
 use Rattle.std.specs.Option.{option_map}
 use Rattle.std.specs.Prelude.{IfErr}
 use Rattle.granit_base.specs.Place.{Unread}
@@ -12,10 +12,10 @@ use Rattle.granit_event.specs.declared.event.Event.{Event}
 use Rattle.granit_event.specs.Events.{plain_event}
 use Rattle.granit_lexemes.specs.Outcome.{Fails, Fault}
 use Rattle.granit_lexemes.specs.PlainEvent.{PlainEvent, EventKind, DocumentStart, DocumentEnd, StreamEnd, Comment}
-use Rattle.granit_parser.proofs.CallLemmas.{ahead_turned, next_exact}
-use Rattle.granit_parser.specs.Parsing.{EndsWith, GivesNext, next_view}
-use Rattle.granit_parser.specs.Recovering.{Failed, FailsAt, GoesWithCalls, ReadsNext, SeenNext}
-use Rattle.granit_parser.specs.Sources.{NeverRevives}
+use Rattle.granit_sourced.proofs.CallLemmas.{ahead_turned, next_exact}
+use Rattle.granit_sourced.specs.Giving.{EndsWith, GivesNext, next_view}
+use Rattle.granit_sourced.specs.Going.{Failed, FailsAt, GoesWithCalls, ReadsNext, SeenNext}
+use Rattle.granit_sourced.specs.Sources.{NeverRevives}
 use Rattle.granit_lexemes.proofs.PieceLemmas.{pieces_fails}
 use Rattle.granit_restart.proofs.AheadLaws.{failing_alike, first_of, next_alike, turn_next, waits_next}
 use Rattle.granit_restart.proofs.EndLaws.{next_none}

@@ -5,7 +5,7 @@ use Rattle.granit_event.specs.Events.{plain_event}
 use Rattle.granit_input.specs.Origin.{Origin}
 use Rattle.granit_layers.specs.Turning.{Next}
 use Rattle.granit_lexemes.specs.PlainEvent.{PlainEvent}
-use Rattle.granit_parser.specs.Sources.{IsSourceError, TellsSource}
+use Rattle.granit_sourced.specs.Sources.{IsSourceError, TellsSource}
 use Rattle.granit_stepper.specs.Stepping.{Stepping}
 use Rattle.granit_stepper.specs.Waiting.{IsAtEnd, SameButCursor, waiting_events, with_waiting}
 

@@ -1,20 +1,18 @@
 -- The machine's calls, and what recovery makes of them.
-use Rattle.std.proofs.Common.{◌≡◌, ◌⊎◌, inl, inr, ℕ, zero, suc, ◌<◌, Bool, true, false, ◌||◌, is_some, List, []}
-use Rattle.std.proofs.Common.{◌∷◌, ◌++◌}
-use Rattle.std.proofs.Common.{Option, Some, None, Result, Ok, Err, refl, sym, ap, subst, ◌∙◌, arith}
+use Rattle.std.proofs.Common.{◌≡◌, ℕ, zero, suc, ◌<◌, Bool, true, false, ◌||◌, is_some, List, [], ◌∷◌, ◌++◌, Option}
+use Rattle.std.proofs.Common.{Some, None, Result, Ok, Err, refl, sym, ap, subst, ◌∙◌, arith}
 use Rattle.std.specs.Prelude.{if◌then◌else◌}
 use Rattle.granit_error.specs.OptionsData.{OptionsData}
 use Rattle.granit_lexemes.proofs.PieceLemmas.{pieces_done, pieces_fails}
 use Rattle.granit_lexemes.specs.Outcome.{Fault}
-use Rattle.granit_lexemes.specs.PlainEvent.{PlainEvent, EventKind, DocumentStart, DocumentEnd, StreamEnd, Comment}
-use Rattle.granit_restart.proofs.AheadLaws.{first_of, notes_told, one, OneTurn, turn_next, waits_next}
+use Rattle.granit_lexemes.specs.PlainEvent.{PlainEvent, EventKind, DocumentEnd, StreamEnd}
+use Rattle.granit_restart.proofs.AheadLaws.{first_of, one, turn_next, waits_next}
 use Rattle.granit_restart.proofs.MarkLaws.{turned_sound}
 use Rattle.granit_restart.proofs.TurnwiseLaws as turnwise
 use Rattle.granit_restart.specs.Ahead.{AheadOf, not_ahead, turn_made, OnlyNotes, is_note}
-use Rattle.granit_restart.specs.Calls.{Calls, GivenByCall, failing, given_by, next_call, noted}
-use Rattle.granit_restart.specs.Looking.{turn_ahead}
-use Rattle.granit_restart.specs.Skipping.{NoEnd, BehindDocument, Ended, SkipEnd, ahead, ahead_by, skip_by_turns}
-use Rattle.granit_restart.specs.Skipping.{skip_ahead, skip_in, skip_turn, with_pending}
+use Rattle.granit_restart.specs.Calls.{Calls, given_by, next_call}
+use Rattle.granit_restart.specs.Skipping.{Ended, SkipEnd, ahead, ahead_by, skip_by_turns, skip_ahead, skip_in}
+use Rattle.granit_restart.specs.Skipping.{skip_turn, with_pending}
 use Rattle.granit_restart.specs.Turned.{Turned, turned_on, turned_with}
 use Rattle.granit_steps.proofs.Futures.{TurnKeeps, turn_keeps}
 use Rattle.granit_steps.proofs.StepLaws.{step_turn-Shortens}

@@ -1,6 +1,6 @@
 -- What a parser gives without memory, by what its stepper gives.
-use Rattle.std.proofs.Common.{◌≡◌, inl, inr, false, List, [], ◌∷◌, Option, None, Some, Result, Ok, Err, refl, sym}
-use Rattle.std.proofs.Common.{ap, subst, ◌∙◌}
+use Rattle.std.proofs.Common.{◌≡◌, inl, inr, false, List, [], ◌∷◌, Option, None, Some, Result, Ok, Err, refl, sym, ap}
+use Rattle.std.proofs.Common.{subst, ◌∙◌}
 use Rattle.std.specs.Prelude.{IfSome, is_some}
 use Rattle.std.specs.Option.{option_map}
 use Rattle.granit_base.specs.declared.place.Span.{Span}
@@ -9,10 +9,11 @@ use Rattle.granit_event.specs.declared.event.Event.{Event}
 use Rattle.granit_event.specs.Events.{plain_event}
 use Rattle.granit_input.specs.Origin.{Gave, Goes, Origin, error_given}
 use Rattle.granit_lexemes.specs.PlainEvent.{PlainEvent}
-use Rattle.granit_parser.proofs.SourceLemmas.{source_tells}
-use Rattle.granit_parser.specs.Parsing.{Next, next_view}
-use Rattle.granit_parser.specs.Sources.{IfUnseen, IsSourceError, TellsSource, unless_failed}
-use Rattle.granit_parser.specs.Waiting.{GivesAtOnce, TakesFirst, TakesFirstOf}
+use Rattle.granit_sourced.proofs.SourceLemmas.{source_tells}
+use Rattle.granit_layers.specs.Turning.{Next}
+use Rattle.granit_sourced.specs.Giving.{next_view}
+use Rattle.granit_sourced.specs.Sources.{IfUnseen, IsSourceError, TellsSource, unless_failed}
+use Rattle.granit_sourced.specs.Waiting.{GivesAtOnce, TakesFirst, TakesFirstOf}
 use Rattle.granit_stepper.specs.Stepping.{Stepping, refused_kind}
 use Rattle.granit_stepper.specs.Waiting.{GivesOldestOf, GivesFirstWaiting, IsAtEnd, SameButCursor, waiting_events}
 use Rattle.granit_stepper.specs.Waiting.{with_waiting}

@@ -1,0 +1,4 @@
+pub mod Giving
+pub mod Going
+pub mod Sources
+pub mod Waiting
