@@ -1,11 +1,9 @@
 //! Parsers over iterators that fail.
 use crate::agree::agree;
-use crate::calls::Call::{self, Next, Peek};
-use crate::calls::Letters;
-use crate::items::{characters, characters_and_error};
-use crate::tells::told_of;
 use granit_error::options;
 use granit_parser::Parser;
+use granit_told::Call::{self, Next, Peek};
+use granit_told::{Letters, characters, characters_and_error, told_of};
 use std::alloc::Global;
 
 /// What is looked at, twice, and taken.

@@ -1,11 +1,10 @@
 //! What the calls give of a text, one by one.
 use crate::agree::agree;
-use crate::calls::Call::{Item, Next, Peek};
-use crate::calls::Letters;
-use crate::tells::{told_of, told_of_text};
 use granit_error::options;
 use granit_input::StrInput;
 use granit_parser::Parser;
+use granit_told::Call::{Item, Next, Peek};
+use granit_told::{Letters, told_of, told_of_text};
 use std::alloc::Global;
 
 /// Events are taken.

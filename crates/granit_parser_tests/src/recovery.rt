@@ -1,11 +1,10 @@
 //! Recovery at a document boundary, what the original gives for the same calls: where it goes on, what it drops and
 //! what it answers.
 use crate::agree::agree;
-use crate::calls::Call::{self, Next, Peek, Recover, UpToFault};
-use crate::calls::{NOTHING, Row, Rows};
-use crate::tells::told_of;
 use granit_error::options;
 use granit_parser::Parser;
+use granit_told::Call::{self, Next, Peek, Recover, UpToFault};
+use granit_told::{NOTHING, Row, Rows, told_of};
 use std::alloc::Global;
 
 const YES: Row = ('t', 0, 0);

@@ -1,10 +1,8 @@
 //! Recovery is refused behind an error of the source, also where the text before it is refused by the same call.
 use crate::agree::agree;
-use crate::calls::Call::{self, Next, Peek, Recover};
-use crate::calls::{NOTHING, Row, Rows};
-use crate::items::characters_and_error;
-use crate::tells::told_of;
 use granit_parser::Parser;
+use granit_told::Call::{self, Next, Peek, Recover};
+use granit_told::{NOTHING, Row, Rows, characters_and_error, told_of};
 use std::alloc::Global;
 
 const START: Row = ('S', 0, 0);

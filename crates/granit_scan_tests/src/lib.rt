@@ -10,6 +10,8 @@ mod base;
 #[cfg(test)]
 mod escapes;
 #[cfg(test)]
+mod failing;
+#[cfg(test)]
 mod lex;
 #[cfg(test)]
 mod properties;

@@ -8,27 +8,32 @@ use granit_parser::Parser;
 
 /// A call.
 #[derive(Clone, Copy)]
-pub(crate) enum Call {
+pub enum Call {
+    /// `next_event`.
     Next,
     /// The iterator's step.
     Item,
+    /// `peek`.
     Peek,
     /// As many of `next_event` as give an event.
     UpToFault,
+    /// `proceed_next_document`.
     Recover,
 }
 
 /// A letter, and from where to where: `S` and `s` are where the stream starts and ends, `D` and `d` a document, `[` and
 /// `]` a sequence, `{` and `}` a mapping, `=` a scalar, `*` an alias and `#` a comment. `!` is a fault, with its kind
 /// and its place, `t` and `f` are what recovery answers, and `.` is nothing.
-pub(crate) type Row = (char, usize, usize);
+pub type Row = (char, usize, usize);
 
-pub(crate) const NOTHING: Row = ('.', 0, 0);
+/// No event, no refusal.
+pub const NOTHING: Row = ('.', 0, 0);
 
 /// A row, and the number of the node's anchor, 0 where it has none.
-type Numbered = (Row, usize);
+pub type Numbered = (Row, usize);
 
-pub(crate) fn letter(event: &Event<'_>) -> char {
+/// The letter of an event.
+pub fn letter(event: &Event<'_>) -> char {
     match event {
         Event::StreamStart => 'S',
         Event::StreamEnd => 's',
@@ -104,10 +109,7 @@ fn up_to_fault<'a, T: BorrowedInput<'a>>(parser: &mut Parser<'a, T>) -> Numbered
 }
 
 /// What a call gives, with the number of an anchor.
-pub(crate) fn numbered<'a, T: BorrowedInput<'a>>(
-    parser: &mut Parser<'a, T>,
-    call: Call,
-) -> Numbered {
+pub fn numbered<'a, T: BorrowedInput<'a>>(parser: &mut Parser<'a, T>, call: Call) -> Numbered {
     match call {
         Call::Next => taken(parser.next_event()),
         Call::Item => taken(parser.next()),
@@ -137,7 +139,7 @@ fn eight<'a, T: BorrowedInput<'a>>(parser: &mut Parser<'a, T>, calls: [Call; 8])
 
 /// Tells what eight calls give.
 #[derive(Drop)]
-pub(crate) struct Rows(pub(crate) [Call; 8]);
+pub struct Rows(pub [Call; 8]);
 
 impl<'a, T: BorrowedInput<'a>> Tells<Parser<'a, T>> for Rows {
     type Told = [Row; 8];
@@ -170,7 +172,7 @@ fn letters_of(rows: [Row; 8]) -> [char; 8] {
 
 /// Tells the letters of what eight calls give.
 #[derive(Drop)]
-pub(crate) struct Letters(pub(crate) [Call; 8]);
+pub struct Letters(pub [Call; 8]);
 
 impl<'a, T: BorrowedInput<'a>> Tells<Parser<'a, T>> for Letters {
     type Told = [char; 8];

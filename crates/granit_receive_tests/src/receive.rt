@@ -1,8 +1,5 @@
 //! What `load` and `try_load` send, over a string and over items of which one is an error.
 use crate::agree::agree;
-use crate::calls::letter;
-use crate::items::characters_and_error;
-use crate::tells::{Tells, told_of, told_of_text};
 use granit_base::{Marker, OwnedText, Span};
 use granit_error::ScanError;
 use granit_event::Event;
@@ -11,6 +8,7 @@ use granit_parser::{
     EventReceiver, Parser, SpannedEventReceiver, TryEventReceiver, TryLoadError,
     TrySpannedEventReceiver,
 };
+use granit_told::{Tells, characters_and_error, letter, told_of, told_of_text};
 use std::alloc::Global;
 use std::fmt::Display;
 

@@ -4,20 +4,22 @@ use granit_parser::Parser;
 use std::alloc::Global;
 
 /// What is told of the calls of a parser.
-pub(crate) trait Tells<P> {
+pub trait Tells<P> {
+    /// What is told.
     type Told;
 
+    /// Makes the calls, and tells of them.
     fn tell(&self, parser: &mut P) -> Self::Told;
 }
 
 /// What is told of a parser that is let go here.
-pub(crate) fn told_of<P: Drop, C: Tells<P>>(parser: P, calls: &C) -> C::Told {
+pub fn told_of<P: Drop, C: Tells<P>>(parser: P, calls: &C) -> C::Told {
     let mut parser = parser;
     calls.tell(&mut parser)
 }
 
 /// The same of a parser of a text.
-pub(crate) fn told_of_text<'a, C: Tells<Parser<'a, StrInput<'a>>>>(
+pub fn told_of_text<'a, C: Tells<Parser<'a, StrInput<'a>>>>(
     alloc: Global,
     text: &'a str,
     calls: &C,

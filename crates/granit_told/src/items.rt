@@ -3,7 +3,7 @@ use granit_error::ErrorKind;
 use std::alloc::Global;
 
 /// Characters, or the error in the place of one.
-pub(crate) type Items = Vec<Result<char, ErrorKind>>;
+pub type Items = Vec<Result<char, ErrorKind>>;
 
 /// One more item, where there is room. What is let go in a generic function is cheap to prove.
 fn push<T: Drop>(items: &mut Vec<T>, item: T) {
@@ -11,7 +11,7 @@ fn push<T: Drop>(items: &mut Vec<T>, item: T) {
 }
 
 /// The characters of a text.
-pub(crate) fn characters(alloc: Global, text: &str) -> Items {
+pub fn characters(alloc: Global, text: &str) -> Items {
     let mut items = Vec::new(alloc);
     for c in text.chars() {
         push(&mut items, Ok(c));
@@ -20,7 +20,7 @@ pub(crate) fn characters(alloc: Global, text: &str) -> Items {
 }
 
 /// The same, and an error behind them.
-pub(crate) fn characters_and_error(alloc: Global, text: &str) -> Items {
+pub fn characters_and_error(alloc: Global, text: &str) -> Items {
     let mut items = characters(alloc, text);
     push(
         &mut items,

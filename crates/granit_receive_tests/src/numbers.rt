@@ -1,11 +1,10 @@
 //! Anchors near the greatest number: what the original gives for the same calls.
 use crate::agree::agree;
-use crate::calls::Call::{self, Next, Peek, Recover, UpToFault};
-use crate::calls::numbered;
 use crate::receive::loaded_twice;
-use crate::tells::{Tells, told_of_text};
 use granit_input::BorrowedInput;
 use granit_parser::Parser;
+use granit_told::Call::{self, Next, Peek, Recover, UpToFault};
+use granit_told::{Tells, numbered, told_of_text};
 
 /// A node's number and where it begins, or a refusal's kind and its place; all 0 where nothing comes. Where recovery
 /// answers true the number is 1.
