@@ -122,7 +122,7 @@ module _ {I : Type 0} (unread : I → Unread → Type 0) where
                   (asks_fault o x.0 looked c f refusal over is);
               tells = subst (λ o'. LookTells o' m) (sym same) (subst (LookTells o)
                   (ap (λ (d : Calls). d.steps) (skipped_to_fault o x.0 c f is)) (tells x.0 c reached over));
-              comes = subst (λ o'. ComesBy o' c.steps m) (sym same) (comes_behind x.0 f comes_here);
+              comes = subst (λ o'. ComesBy o' c.steps m) (sym same) (comes_behind x.0 f comes_here x.1.0 x.2);
             };
             goes = exactly new m x.3 first;
             turned = subst (λ o'. Turned o' m) (sym same) (asks_turned o x.0 looked c m reached by_turns
@@ -132,7 +132,7 @@ module _ {I : Type 0} (unread : I → Unread → Type 0) where
     fault_asks cursor f is (inr x) first =
         let drops = subst (λ o'. DropsOn o' (behind_fault x.0 c.steps).1 x.2) (sym same) x.4 in
         let number = subst (λ o'. RefusesNumber new.renumbered o' x.2 x.3) (sym same) x.5 in
-        inr (x.2, x.3, comes_dropping (comes_anew x.0 comes_here) drops, number)
+        inr (x.2, x.3, comes_dropping (comes_anew x.0 comes_here x.1.0) drops, number)
 
   -- ---- by whether a call failed
 
@@ -219,11 +219,11 @@ module _ {I : Type 0} (unread : I → Unread → Type 0) where
               x.0,
               stops_fit x.0 (failed_there e n) fails (x.1.0, x.2),
               skipped_asks x.0 (skipped_fault o x.0 e n) (ap (skipped_to o x.0) (skips ∙ fails))
-                  (comes_behind x.0 e comes) x.3 first,
+                  (comes_behind x.0 e comes x.1.0 x.2) x.3 first,
             )
         fault_met n e comes (inr number) later (inl x) first = inr (number_met n e comes number)
         fault_met n e comes how later (inr x) first =
-            inr (number_met x.2 x.3 (comes_dropping (comes_anew x.0 comes) x.4) x.5)
+            inr (number_met x.2 x.3 (comes_dropping (comes_anew x.0 comes x.1.0) x.4) x.5)
 
         pub document_asks : SkipsDocument unread o new t → new.first ≡ None → AsksFrom unread cursor looked new c
             ⊎ MeetsNumber new.renumbered new.scanner.options c.steps

@@ -175,8 +175,13 @@ pub data ComesBy (o : OptionsData) (m : StepState) : StepState → Type 0 where
   comes_seen : {n k : StepState} {e : PlainEvent} → ComesBy o m n → next_event o n ≡ Ok (Some e, k) → ComesBy o m k
   comes_dropping : {n k : StepState} → ComesBy o m n → DropsOn o n k → ComesBy o m k
   comes_ended : {n k : StepState} → ComesBy o m n → skip_by_turns o n ≡ Ended k → ComesBy o m k
-  comes_behind : {n : StepState} (stops : Stops) (e : Fault) → ComesBy o m n → ComesBy o m (skipped_fault o stops e n)
-  comes_anew : {n : StepState} (stop : Here) → ComesBy o m n → ComesBy o m (behind_fault stop n).1
+  -- reads that were refused stopped onward of where reading stood
+  comes_behind : {n : StepState} (stops : Stops) (e : Fault) → ComesBy o m n
+      → Onward n.reading.reader.here stops.first
+      → StopsBehind (skip_by_turns o (behind_fault stops.first n).1) stops.second
+      → ComesBy o m (skipped_fault o stops e n)
+  comes_anew : {n : StepState} (stop : Here) → ComesBy o m n → Onward n.reading.reader.here stop
+      → ComesBy o m (behind_fault stop n).1
   comes_ahead : {n k : StepState} → ComesBy o m n → AheadOf o n k → ComesBy o m k
   comes_bare : {n : StepState} → ComesBy o m n → ComesBy o m (with_pending [] n)
 
