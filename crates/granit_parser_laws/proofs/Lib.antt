@@ -1,0 +1,4 @@
+pub mod AgainLemmas
+pub mod LeadLemmas
+pub mod StarvedLemmas
+pub mod StopLemmas
