@@ -34,7 +34,8 @@ impl From<AllocError> for ReadEnd {
 /// The most bytes that an input may have.
 pub const MOST: usize = 67_108_864;
 
-const PIECE: usize = 65_536;
+/// What is read at once: little of the stack, and so much is copied by moves of whole vectors.
+const PIECE: usize = 2_048;
 
 /// All that a source has left. Where that is more than `MOST` bytes, `MOST + 1` are taken.
 pub fn read_all<S: Source>(alloc: Global, source: &mut S) -> Result<Vec<u8>, ReadEnd>
