@@ -1,12 +1,12 @@
 //! An input that tells where it stands and refuses parts of what it read.
 use crate::agree::agree;
-use crate::stream::Stream;
 use granit_base::NoMemory;
 use granit_cursor::{Cursor, Lexed, Token, TokenType, scan_comment};
 use granit_directives::scan_directive;
 use granit_error::{Options, ScanError};
 use granit_input::{BorrowedInput, Input, StrInput};
 use granit_properties::scan_anchor;
+use granit_stream::Stream;
 use std::alloc::Global;
 
 /// The number of the kind by which something is refused, and the index of its mark, both 0 where it isn't; and `l`
