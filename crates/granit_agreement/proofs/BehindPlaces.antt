@@ -3,10 +3,8 @@ use Rattle.granit_agreement.specs.Fair.{FairAt, FairBehind, frame_ends_at}
 use Rattle.granit_agreement.specs.Good.{Holes, at_root, at_entry, at_key, at_asked, at_value, at_item, at_curly}
 use Rattle.granit_agreement.specs.Good.{curly_key, curly_asked, curly_value, made_key, made_value, pair_asked}
 use Rattle.granit_agreement.specs.Good.{pair_value, GoodProperties}
-use Rattle.granit_agreement.specs.Stepping.{taken, LimitView, at_kind, knowing}
-use Rattle.granit_agreement.specs.Steps.{StepsLimited, On}
-use Rattle.granit_agreement.specs.View.{state_of}
-use Rattle.granit_language.specs.Seen.{terminal_kind, terminal_of, at_of}
+use Rattle.granit_agreement.specs.Stepping.{taken, LimitView}
+use Rattle.granit_language.specs.Seen.{terminal_kind}
 use Rattle.granit_grammar.specs.EventMachine.{OpenFrame, PropertiesFrame, InFrames, EventState, Ending, ending}
 use Rattle.granit_grammar.specs.EventMachine.{with_event, finish_frames, if_gives, begin_pair_frames, frames_room}
 use Rattle.granit_grammar.specs.EventMachine.{frames_indent, part_frames, stop_kind, take_frames, want_frames}
@@ -15,7 +13,6 @@ use Rattle.granit_language.specs.Choice.{choose}
 use Rattle.granit_language.specs.Node.{TreeProperties, NoProperties, One, Two}
 use Rattle.granit_language.specs.Room.{Room, BehindKey, Inside, behind_property, room_behind, right_fits, loose_fits}
 use Rattle.granit_language.specs.Room.{indicates, part_fits, joins, continues_node}
-use Rattle.granit_language.specs.Scope.{Scope}
 use Rattle.granit_language.specs.Terminal.{Anchor, Tag, Part, PartKind, Alias, Property, Scalar, Open, Question, Colon}
 use Rattle.granit_language.specs.Terminal.{At, Terminal, edge}
 use Rattle.granit_language.specs.TreeEvents.{alone_event, properties_end}
@@ -23,25 +20,19 @@ use Rattle.granit_lexemes.specs.Lexeme.{KeyStart}
 use Rattle.granit_lexemes.specs.declared.layout.Bracket.TheVariants.{Square, Curly}
 use Rattle.granit_machine.specs.Frames.{ParserState}
 use Rattle.granit_machine.specs.Parser.{take_token}
-use Rattle.granit_machine.specs.TokenSort.{token_of}
 use Rattle.std.proofs.Common.{◌≡◌, ℕ, suc, Bool, true, false, ◌||◌, ◌&&◌, not, nat_lt, List, [], ◌∷◌, refl, sym, ap}
 use Rattle.std.proofs.Common.{ap₂, ◌∙◌, subst, Option, Some, None, Result}
 use Rattle.std.specs.Prelude.{nat_le}
-use Rattle.granit_base.specs.Place.{Mark}
-use Rattle.granit_error.specs.OptionsData.{OptionsData}
 use Rattle.granit_lexemes.specs.Outcome.{Fault}
-use Rattle.granit_lexemes.specs.PlainEvent.{PlainEvent}
 use Rattle.granit_lexemes.specs.Lexeme as lexemes
 use Rattle.granit_grammar.proofs.Tests.{and_left, and_right}
+use Rattle.granit_agreement.proofs.Arrivals.{Arrival, arriving, arriving_token, beside_at, parser_at, StepsLimited}
 use Rattle.granit_agreement.proofs.BlockNodes.{part_limited}
 use Rattle.granit_agreement.proofs.NodeTests.{Joined, Tested, NodeOf, RightOfHole, node_or, dash_tested}
 use Rattle.granit_agreement.proofs.PartSteps.{scalar_parts, square_parts, curly_parts, anchor_parts, tag_parts}
 use Rattle.granit_agreement.proofs.Views.{after_nothing}
 use Rattle.granit_agreement.proofs.Wants.{BlockHole, root_hole, entry_hole, asked_hole, value_hole, hole_column}
 use Rattle.granit_agreement.proofs.Wants.{right_is, indicates_is, part_fits_is}
-
-abbrev X : Bool → lexemes.LexemeKind → Option KeyStart → Scope → lexemes.Lexeme → Terminal
-X b k key s l = terminal_of b s (at_kind l k key)
 
 abbrev RoomOf : TreeProperties → List OpenFrame → Room
 RoomOf p fs = room_behind p (frames_room fs)
@@ -95,24 +86,21 @@ plain_is fs p m i e f =
     (if_gives b (stop_kind fs) (part_frames (stop_kind fs) fs p m i)))
     (ap (λ b. b && indicates (RoomOf p fs) i) e) f
 
-abbrev BehindView :
-    Bool → lexemes.LexemeKind → Option KeyStart → Scope → lexemes.Lexeme → OptionsData → Mark → List PlainEvent →
-    TreeProperties → List OpenFrame → Type 0
-BehindView b k key s l o last given p fs =
-    LimitView o (X b k key s l) (knowing o s last given) (NodeOf b k key s l o last given p fs)
-    (want_frames fs p (terminal_kind k key) (at_of b s (at_kind l k key)))
+abbrev BehindView : Bool → lexemes.LexemeKind → Option KeyStart → Arrival → TreeProperties → List OpenFrame → Type 0
+BehindView b k key a p fs =
+    LimitView a.options (arriving b k key a) (beside_at a) (NodeOf b k key a p fs)
+    (want_frames fs p (terminal_kind k key) (arriving b k key a).at)
 
 plain_behind :
-    (m : PartKind) (k : lexemes.LexemeKind) (s : Scope) (l : lexemes.Lexeme) (o : OptionsData) (last : Mark)
-    (given : List PlainEvent) (p : TreeProperties) (fs : List OpenFrame) (n : Result ParserState Fault) →
-    (part_fits (RoomOf p fs) (at_of false s (at_kind l k None)) && joins p m) ≡ true →
-    LimitView o (On k false s l) (knowing o s last given) n
-    (part_frames (stop_kind fs) fs p m (at_of false s (at_kind l k None))) →
-    LimitView o (On k false s l) (knowing o s last given) n
-    (want_frames fs p (Part m) (at_of false s (at_kind l k None)))
-plain_behind m k s l o last given p fs n c v =
-    subst (LimitView o (On k false s l) (knowing o s last given) n)
-    (sym (plain_is fs p m (at_of false s (at_kind l k None)) refl (and_left _ _ c))) v
+    (m : PartKind) (k : lexemes.LexemeKind) (a : Arrival) (p : TreeProperties) (fs : List OpenFrame)
+    (n : Result ParserState Fault) → (part_fits (RoomOf p fs) (arriving false k None a).at && joins p m) ≡ true →
+    LimitView a.options (arriving false k None a) (beside_at a) n
+    (part_frames (stop_kind fs) fs p m (arriving false k None a).at) →
+    LimitView a.options (arriving false k None a) (beside_at a) n
+    (want_frames fs p (Part m) (arriving false k None a).at)
+plain_behind m k a p fs n c v =
+    subst (LimitView a.options (arriving false k None a) (beside_at a) n)
+    (sym (plain_is fs p m (arriving false k None a).at refl (and_left _ _ c))) v
 
 -- ---- one that begins something outside flow
 
@@ -133,18 +121,18 @@ key_right fs p m i q e c =
 
 -- the test holds
 tested_true :
-    (b : Bool) (k : lexemes.LexemeKind) (key : Option KeyStart) (s : Scope) (l : lexemes.Lexeme) (o : OptionsData)
-    (last : Mark) (given : List PlainEvent) (p : TreeProperties) (fs : List OpenFrame) (r : Bool) → r ≡ true →
-    LimitView o (X b k key s l) (knowing o s last given)
-    (Tested r (NodeOf b k key s l o last given p fs) (stop_kind fs) (X b k key s l))
-    (want_frames fs p (terminal_kind k key) (at_of b s (at_kind l k key))) →
-    BehindView b k key s l o last given p fs
-tested_true b k key s l o last given p fs r e v =
+    (b : Bool) (k : lexemes.LexemeKind) (key : Option KeyStart) (a : Arrival) (p : TreeProperties)
+    (fs : List OpenFrame) (r : Bool) → r ≡ true →
+    LimitView a.options (arriving b k key a) (beside_at a)
+    (Tested r (NodeOf b k key a p fs) (stop_kind fs) (arriving b k key a))
+    (want_frames fs p (terminal_kind k key) (arriving b k key a).at) →
+    BehindView b k key a p fs
+tested_true b k key a p fs r e v =
     subst
     (λ r.
-    LimitView o (X b k key s l) (knowing o s last given)
-    (Tested r (NodeOf b k key s l o last given p fs) (stop_kind fs) (X b k key s l))
-    (want_frames fs p (terminal_kind k key) (at_of b s (at_kind l k key))))
+    LimitView a.options (arriving b k key a) (beside_at a)
+    (Tested r (NodeOf b k key a p fs) (stop_kind fs) (arriving b k key a))
+    (want_frames fs p (terminal_kind k key) (arriving b k key a).at))
     e v
 
 no_room : false ≡ true → ⊥
@@ -162,129 +150,130 @@ joined_colon p true = tt
 joined_colon p false = tt
 
 behind_given :
-    (b : Bool) (k : lexemes.LexemeKind) (key : Option KeyStart) (s : Scope) (l : lexemes.Lexeme) (o : OptionsData)
-    (last : Mark) (given : List PlainEvent) (p : TreeProperties) (fs : List OpenFrame) → GoodProperties p → Holes fs →
-    PlaceOr p fs → nat_le (blocks_open fs) o.block_nesting_limit ≡ true →
-    continues_node (RoomOf p fs) p (terminal_kind k key) (at_of b s (at_kind l k key)) ≡ true →
-    FairBehind (RoomOf p fs) (X b k key s l) → BehindView b k key s l o last given p fs
-behind_given b (lexemes.Directive directive) key s l o last given p fs g h r e c f = cc (c)
-behind_given b lexemes.DocumentStart key s l o last given p fs g h r e c f = cc (c)
-behind_given b lexemes.DocumentEnd key s l o last given p fs g h r e c f = cc (c)
-behind_given b lexemes.StreamEnd key s l o last given p fs g h r e c f = cc (c)
-behind_given b lexemes.Comma key s l o last given p fs g h r e c f = cc (c)
-behind_given b (lexemes.Close bracket) key s l o last given p fs g h r e c f = cc (c)
-behind_given b lexemes.Colon (Some n) s l o last given p fs g h r e c f = cc (c)
-behind_given b lexemes.Colon None s l o last given p fs g h (in_block q) e c f =
-    tested_true b lexemes.Colon None s l o last given p fs (RightOfHole l fs)
-    (sym (indicates_is p fs (at_of b s (at_kind l lexemes.Colon None)) q) ∙ c)
-    (node_or b lexemes.Colon None s l o last given p fs h q e (joined_colon p b) refl refl)
-behind_given b lexemes.Colon None s l o last given p fs g h (in_key w) e c f =
-    absurd (no_room (ap (λ r. indicates r (at_of b s (at_kind l lexemes.Colon None))) (sym w) ∙ c))
-behind_given b lexemes.Colon None s l o last given p fs g h (in_flow w) e c f =
-    absurd (no_room (ap (λ r. indicates r (at_of b s (at_kind l lexemes.Colon None))) (sym w) ∙ c))
-behind_given b lexemes.Question key s l o last given p fs g h (in_block q) e c f =
-    tested_true b lexemes.Question key s l o last given p fs (RightOfHole l fs)
-    (sym (indicates_is p fs (at_of b s (at_kind l lexemes.Question key)) q) ∙ c)
-    (node_or b lexemes.Question key s l o last given p fs h q e (joined_question p b) refl refl)
-behind_given b lexemes.Question key s l o last given p fs g h (in_key w) e c f =
-    absurd (no_room (ap (λ r. indicates r (at_of b s (at_kind l lexemes.Question key))) (sym w) ∙ c))
-behind_given b lexemes.Question key s l o last given p fs g h (in_flow w) e c f =
-    absurd (no_room (ap (λ r. indicates r (at_of b s (at_kind l lexemes.Question key))) (sym w) ∙ c))
-behind_given b lexemes.Dash key s l o last given p fs g h (in_block q) e c f =
-    tested_true b lexemes.Dash key s l o last given p fs
-    (loose_fits (RoomOf p fs) (suc l.start.place.column) || RightOfHole l fs)
-    (ap (λ r. loose_fits (RoomOf p fs) (suc l.start.place.column) || r)
-    (sym (right_is p fs (suc l.start.place.column) q))
+    (b : Bool) (k : lexemes.LexemeKind) (key : Option KeyStart) (a : Arrival) (p : TreeProperties)
+    (fs : List OpenFrame) → GoodProperties p → Holes fs →
+    PlaceOr p fs → nat_le (blocks_open fs) a.options.block_nesting_limit ≡ true →
+    continues_node (RoomOf p fs) p (terminal_kind k key) (arriving b k key a).at ≡ true →
+    FairBehind (RoomOf p fs) (arriving b k key a) → BehindView b k key a p fs
+behind_given b (lexemes.Directive directive) key a p fs g h r e c f = cc (c)
+behind_given b lexemes.DocumentStart key a p fs g h r e c f = cc (c)
+behind_given b lexemes.DocumentEnd key a p fs g h r e c f = cc (c)
+behind_given b lexemes.StreamEnd key a p fs g h r e c f = cc (c)
+behind_given b lexemes.Comma key a p fs g h r e c f = cc (c)
+behind_given b (lexemes.Close bracket) key a p fs g h r e c f = cc (c)
+behind_given b lexemes.Colon (Some n) a p fs g h r e c f = cc (c)
+behind_given b lexemes.Colon None a p fs g h (in_block q) e c f =
+    tested_true b lexemes.Colon None a p fs (RightOfHole a.lexeme fs)
+    (sym (indicates_is p fs (arriving b lexemes.Colon None a).at q) ∙ c)
+    (node_or b lexemes.Colon None a p fs h q e (joined_colon p b) refl refl)
+behind_given b lexemes.Colon None a p fs g h (in_key w) e c f =
+    absurd (no_room (ap (λ r. indicates r (arriving b lexemes.Colon None a).at) (sym w) ∙ c))
+behind_given b lexemes.Colon None a p fs g h (in_flow w) e c f =
+    absurd (no_room (ap (λ r. indicates r (arriving b lexemes.Colon None a).at) (sym w) ∙ c))
+behind_given b lexemes.Question key a p fs g h (in_block q) e c f =
+    tested_true b lexemes.Question key a p fs (RightOfHole a.lexeme fs)
+    (sym (indicates_is p fs (arriving b lexemes.Question key a).at q) ∙ c)
+    (node_or b lexemes.Question key a p fs h q e (joined_question p b) refl refl)
+behind_given b lexemes.Question key a p fs g h (in_key w) e c f =
+    absurd (no_room (ap (λ r. indicates r (arriving b lexemes.Question key a).at) (sym w) ∙ c))
+behind_given b lexemes.Question key a p fs g h (in_flow w) e c f =
+    absurd (no_room (ap (λ r. indicates r (arriving b lexemes.Question key a).at) (sym w) ∙ c))
+behind_given b lexemes.Dash key a p fs g h (in_block q) e c f =
+    tested_true b lexemes.Dash key a p fs
+    (loose_fits (RoomOf p fs) (suc a.lexeme.start.place.column) || RightOfHole a.lexeme fs)
+    (ap (λ r. loose_fits (RoomOf p fs) (suc a.lexeme.start.place.column) || r)
+    (sym (right_is p fs (suc a.lexeme.start.place.column) q))
     ∙ c)
-    (dash_tested b key s l o last given p fs h q)
-behind_given b lexemes.Dash key s l o last given p fs g h (in_key w) e c f =
+    (dash_tested b key a p fs h q)
+behind_given b lexemes.Dash key a p fs g h (in_key w) e c f =
     absurd
     (no_room
-    (ap (λ r. loose_fits r (suc l.start.place.column) || right_fits r (suc l.start.place.column)) (sym w) ∙ c))
-behind_given b lexemes.Dash key s l o last given p fs g h (in_flow w) e c f =
+    (ap (λ r. loose_fits r (suc a.lexeme.start.place.column) || right_fits r (suc a.lexeme.start.place.column)) (sym w)
+    ∙ c))
+behind_given b lexemes.Dash key a p fs g h (in_flow w) e c f =
     absurd
     (no_room
-    (ap (λ r. loose_fits r (suc l.start.place.column) || right_fits r (suc l.start.place.column)) (sym w) ∙ c))
-behind_given false (lexemes.Scalar style text) key s l o last given p fs g h r e c f =
-    plain_behind (Scalar style text) (lexemes.Scalar style text) s l o last given p fs
-    (NodeOf false (lexemes.Scalar style text) key s l o last given p fs) c
-    (part_limited false (Scalar style text) (lexemes.Scalar style text) s l o last given p fs (stop_kind fs) h e
-    (scalar_parts false style text s l o last given p fs (stop_kind fs) h))
-behind_given false (lexemes.Open Square) key s l o last given p fs g h r e c f =
-    plain_behind (Open Square) (lexemes.Open Square) s l o last given p fs
-    (NodeOf false (lexemes.Open Square) key s l o last given p fs) c
-    (part_limited false (Open Square) (lexemes.Open Square) s l o last given p fs (stop_kind fs) h e
-    (square_parts false s l o last given p fs (stop_kind fs) h))
-behind_given false (lexemes.Open Curly) key s l o last given p fs g h r e c f =
-    plain_behind (Open Curly) (lexemes.Open Curly) s l o last given p fs
-    (NodeOf false (lexemes.Open Curly) key s l o last given p fs) c
-    (part_limited false (Open Curly) (lexemes.Open Curly) s l o last given p fs (stop_kind fs) h e
-    (curly_parts false s l o last given p fs (stop_kind fs) h))
-behind_given false (lexemes.Anchor name) key s l o last given p fs g h r e c f =
-    plain_behind (Property (Anchor name)) (lexemes.Anchor name) s l o last given p fs
-    (NodeOf false (lexemes.Anchor name) key s l o last given p fs) c
-    (part_limited false (Property (Anchor name)) (lexemes.Anchor name) s l o last given p fs (stop_kind fs) h e
-    (anchor_parts false name s l o last given p fs (stop_kind fs) h (and_right _ _ c)))
-behind_given false (lexemes.Tag handle suffix) key s l o last given p fs g h r e c f =
-    plain_behind (Property (Tag handle suffix)) (lexemes.Tag handle suffix) s l o last given p fs
-    (NodeOf false (lexemes.Tag handle suffix) key s l o last given p fs) c
+    (ap (λ r. loose_fits r (suc a.lexeme.start.place.column) || right_fits r (suc a.lexeme.start.place.column)) (sym w)
+    ∙ c))
+behind_given false (lexemes.Scalar style text) key a p fs g h r e c f =
+    plain_behind (Scalar style text) (lexemes.Scalar style text) a p fs
+    (NodeOf false (lexemes.Scalar style text) key a p fs) c
+    (part_limited false (Scalar style text) (lexemes.Scalar style text) a p fs (stop_kind fs) h e
+    (scalar_parts false style text a p fs (stop_kind fs) h))
+behind_given false (lexemes.Open Square) key a p fs g h r e c f =
+    plain_behind (Open Square) (lexemes.Open Square) a p fs
+    (NodeOf false (lexemes.Open Square) key a p fs) c
+    (part_limited false (Open Square) (lexemes.Open Square) a p fs (stop_kind fs) h e
+    (square_parts false a p fs (stop_kind fs) h))
+behind_given false (lexemes.Open Curly) key a p fs g h r e c f =
+    plain_behind (Open Curly) (lexemes.Open Curly) a p fs
+    (NodeOf false (lexemes.Open Curly) key a p fs) c
+    (part_limited false (Open Curly) (lexemes.Open Curly) a p fs (stop_kind fs) h e
+    (curly_parts false a p fs (stop_kind fs) h))
+behind_given false (lexemes.Anchor name) key a p fs g h r e c f =
+    plain_behind (Property (Anchor name)) (lexemes.Anchor name) a p fs
+    (NodeOf false (lexemes.Anchor name) key a p fs) c
+    (part_limited false (Property (Anchor name)) (lexemes.Anchor name) a p fs (stop_kind fs) h e
+    (anchor_parts false name a p fs (stop_kind fs) h (and_right _ _ c)))
+behind_given false (lexemes.Tag handle suffix) key a p fs g h r e c f =
+    plain_behind (Property (Tag handle suffix)) (lexemes.Tag handle suffix) a p fs
+    (NodeOf false (lexemes.Tag handle suffix) key a p fs) c
     (part_limited false (Property (Tag handle suffix)) (lexemes.Tag handle suffix)
-    s l o last given p fs (stop_kind fs) h e
-    (tag_parts false handle suffix s l o last given p fs (stop_kind fs) h (and_right _ _ c)))
-behind_given false (lexemes.Alias name) key s l o last given NoProperties fs g h r e c f = absurd g
-behind_given false (lexemes.Alias name) key s l o last given (One k i) fs g h r e c f =
+    a p fs (stop_kind fs) h e
+    (tag_parts false handle suffix a p fs (stop_kind fs) h (and_right _ _ c)))
+behind_given false (lexemes.Alias name) key a NoProperties fs g h r e c f = absurd g
+behind_given false (lexemes.Alias name) key a (One k i) fs g h r e c f =
     absurd (no_room (and_right _ _ c))
-behind_given false (lexemes.Alias name) key s l o last given (Two k i m j) fs g h r e c f =
+behind_given false (lexemes.Alias name) key a (Two k i m j) fs g h r e c f =
     absurd (no_room (and_right _ _ c))
-behind_given true (lexemes.Scalar style text) key s l o last given p fs g h (in_block q) e c f =
-    tested_true true (lexemes.Scalar style text) key s l o last given p fs (RightOfHole l fs)
-    (key_right fs p (Scalar style text) (at_of true s (at_kind l (lexemes.Scalar style text) key)) q refl c)
-    (node_or true (lexemes.Scalar style text) key s l o last given p fs h q e tt refl refl)
-behind_given true (lexemes.Scalar style text) key s l o last given p fs g h (in_key w) e c f =
-    absurd (no_key (subst (λ r. FairBehind r (X true (lexemes.Scalar style text) key s l)) w f))
-behind_given true (lexemes.Scalar style text) key s l o last given p fs g h (in_flow w) e c f =
-    absurd (no_key (subst (λ r. FairBehind r (X true (lexemes.Scalar style text) key s l)) w f).0)
-behind_given true (lexemes.Open Square) key s l o last given p fs g h (in_block q) e c f =
-    tested_true true (lexemes.Open Square) key s l o last given p fs (RightOfHole l fs)
-    (key_right fs p (Open Square) (at_of true s (at_kind l (lexemes.Open Square) key)) q refl c)
-    (node_or true (lexemes.Open Square) key s l o last given p fs h q e tt refl refl)
-behind_given true (lexemes.Open Square) key s l o last given p fs g h (in_key w) e c f =
-    absurd (no_key (subst (λ r. FairBehind r (X true (lexemes.Open Square) key s l)) w f))
-behind_given true (lexemes.Open Square) key s l o last given p fs g h (in_flow w) e c f =
-    absurd (no_key (subst (λ r. FairBehind r (X true (lexemes.Open Square) key s l)) w f).0)
-behind_given true (lexemes.Open Curly) key s l o last given p fs g h (in_block q) e c f =
-    tested_true true (lexemes.Open Curly) key s l o last given p fs (RightOfHole l fs)
-    (key_right fs p (Open Curly) (at_of true s (at_kind l (lexemes.Open Curly) key)) q refl c)
-    (node_or true (lexemes.Open Curly) key s l o last given p fs h q e tt refl refl)
-behind_given true (lexemes.Open Curly) key s l o last given p fs g h (in_key w) e c f =
-    absurd (no_key (subst (λ r. FairBehind r (X true (lexemes.Open Curly) key s l)) w f))
-behind_given true (lexemes.Open Curly) key s l o last given p fs g h (in_flow w) e c f =
-    absurd (no_key (subst (λ r. FairBehind r (X true (lexemes.Open Curly) key s l)) w f).0)
-behind_given true (lexemes.Anchor name) key s l o last given p fs g h (in_block q) e c f =
-    tested_true true (lexemes.Anchor name) key s l o last given p fs (RightOfHole l fs)
-    (key_right fs p (Property (Anchor name)) (at_of true s (at_kind l (lexemes.Anchor name) key)) q refl c)
-    (node_or true (lexemes.Anchor name) key s l o last given p fs h q e tt refl refl)
-behind_given true (lexemes.Anchor name) key s l o last given p fs g h (in_key w) e c f =
-    absurd (no_key (subst (λ r. FairBehind r (X true (lexemes.Anchor name) key s l)) w f))
-behind_given true (lexemes.Anchor name) key s l o last given p fs g h (in_flow w) e c f =
-    absurd (no_key (subst (λ r. FairBehind r (X true (lexemes.Anchor name) key s l)) w f).0)
-behind_given true (lexemes.Tag handle suffix) key s l o last given p fs g h (in_block q) e c f =
-    tested_true true (lexemes.Tag handle suffix) key s l o last given p fs (RightOfHole l fs)
-    (key_right fs p (Property (Tag handle suffix)) (at_of true s (at_kind l (lexemes.Tag handle suffix) key)) q refl
-    c)
-    (node_or true (lexemes.Tag handle suffix) key s l o last given p fs h q e tt refl refl)
-behind_given true (lexemes.Tag handle suffix) key s l o last given p fs g h (in_key w) e c f =
-    absurd (no_key (subst (λ r. FairBehind r (X true (lexemes.Tag handle suffix) key s l)) w f))
-behind_given true (lexemes.Tag handle suffix) key s l o last given p fs g h (in_flow w) e c f =
-    absurd (no_key (subst (λ r. FairBehind r (X true (lexemes.Tag handle suffix) key s l)) w f).0)
-behind_given true (lexemes.Alias name) key s l o last given p fs g h (in_block q) e c f =
-    tested_true true (lexemes.Alias name) key s l o last given p fs (RightOfHole l fs)
-    (key_right fs p (Alias name) (at_of true s (at_kind l (lexemes.Alias name) key)) q refl c)
-    (node_or true (lexemes.Alias name) key s l o last given p fs h q e tt refl refl)
-behind_given true (lexemes.Alias name) key s l o last given p fs g h (in_key w) e c f =
-    absurd (no_key (subst (λ r. FairBehind r (X true (lexemes.Alias name) key s l)) w f))
-behind_given true (lexemes.Alias name) key s l o last given p fs g h (in_flow w) e c f =
-    absurd (no_key (subst (λ r. FairBehind r (X true (lexemes.Alias name) key s l)) w f).0)
+behind_given true (lexemes.Scalar style text) key a p fs g h (in_block q) e c f =
+    tested_true true (lexemes.Scalar style text) key a p fs (RightOfHole a.lexeme fs)
+    (key_right fs p (Scalar style text) (arriving true (lexemes.Scalar style text) key a).at q refl c)
+    (node_or true (lexemes.Scalar style text) key a p fs h q e tt refl refl)
+behind_given true (lexemes.Scalar style text) key a p fs g h (in_key w) e c f =
+    absurd (no_key (subst (λ r. FairBehind r (arriving true (lexemes.Scalar style text) key a)) w f))
+behind_given true (lexemes.Scalar style text) key a p fs g h (in_flow w) e c f =
+    absurd (no_key (subst (λ r. FairBehind r (arriving true (lexemes.Scalar style text) key a)) w f).0)
+behind_given true (lexemes.Open Square) key a p fs g h (in_block q) e c f =
+    tested_true true (lexemes.Open Square) key a p fs (RightOfHole a.lexeme fs)
+    (key_right fs p (Open Square) (arriving true (lexemes.Open Square) key a).at q refl c)
+    (node_or true (lexemes.Open Square) key a p fs h q e tt refl refl)
+behind_given true (lexemes.Open Square) key a p fs g h (in_key w) e c f =
+    absurd (no_key (subst (λ r. FairBehind r (arriving true (lexemes.Open Square) key a)) w f))
+behind_given true (lexemes.Open Square) key a p fs g h (in_flow w) e c f =
+    absurd (no_key (subst (λ r. FairBehind r (arriving true (lexemes.Open Square) key a)) w f).0)
+behind_given true (lexemes.Open Curly) key a p fs g h (in_block q) e c f =
+    tested_true true (lexemes.Open Curly) key a p fs (RightOfHole a.lexeme fs)
+    (key_right fs p (Open Curly) (arriving true (lexemes.Open Curly) key a).at q refl c)
+    (node_or true (lexemes.Open Curly) key a p fs h q e tt refl refl)
+behind_given true (lexemes.Open Curly) key a p fs g h (in_key w) e c f =
+    absurd (no_key (subst (λ r. FairBehind r (arriving true (lexemes.Open Curly) key a)) w f))
+behind_given true (lexemes.Open Curly) key a p fs g h (in_flow w) e c f =
+    absurd (no_key (subst (λ r. FairBehind r (arriving true (lexemes.Open Curly) key a)) w f).0)
+behind_given true (lexemes.Anchor name) key a p fs g h (in_block q) e c f =
+    tested_true true (lexemes.Anchor name) key a p fs (RightOfHole a.lexeme fs)
+    (key_right fs p (Property (Anchor name)) (arriving true (lexemes.Anchor name) key a).at q refl c)
+    (node_or true (lexemes.Anchor name) key a p fs h q e tt refl refl)
+behind_given true (lexemes.Anchor name) key a p fs g h (in_key w) e c f =
+    absurd (no_key (subst (λ r. FairBehind r (arriving true (lexemes.Anchor name) key a)) w f))
+behind_given true (lexemes.Anchor name) key a p fs g h (in_flow w) e c f =
+    absurd (no_key (subst (λ r. FairBehind r (arriving true (lexemes.Anchor name) key a)) w f).0)
+behind_given true (lexemes.Tag handle suffix) key a p fs g h (in_block q) e c f =
+    tested_true true (lexemes.Tag handle suffix) key a p fs (RightOfHole a.lexeme fs)
+    (key_right fs p (Property (Tag handle suffix)) (arriving true (lexemes.Tag handle suffix) key a).at q refl c)
+    (node_or true (lexemes.Tag handle suffix) key a p fs h q e tt refl refl)
+behind_given true (lexemes.Tag handle suffix) key a p fs g h (in_key w) e c f =
+    absurd (no_key (subst (λ r. FairBehind r (arriving true (lexemes.Tag handle suffix) key a)) w f))
+behind_given true (lexemes.Tag handle suffix) key a p fs g h (in_flow w) e c f =
+    absurd (no_key (subst (λ r. FairBehind r (arriving true (lexemes.Tag handle suffix) key a)) w f).0)
+behind_given true (lexemes.Alias name) key a p fs g h (in_block q) e c f =
+    tested_true true (lexemes.Alias name) key a p fs (RightOfHole a.lexeme fs)
+    (key_right fs p (Alias name) (arriving true (lexemes.Alias name) key a).at q refl c)
+    (node_or true (lexemes.Alias name) key a p fs h q e tt refl refl)
+behind_given true (lexemes.Alias name) key a p fs g h (in_key w) e c f =
+    absurd (no_key (subst (λ r. FairBehind r (arriving true (lexemes.Alias name) key a)) w f))
+behind_given true (lexemes.Alias name) key a p fs g h (in_flow w) e c f =
+    absurd (no_key (subst (λ r. FairBehind r (arriving true (lexemes.Alias name) key a)) w f).0)
 
 -- ---- the steps
 
@@ -299,38 +288,34 @@ not_false true h = refl
 not_false false h = cc (h)
 
 pub behind_properties_steps :
-    (b : Bool) (k : lexemes.LexemeKind) (key : Option KeyStart) (s : Scope) (l : lexemes.Lexeme) (o : OptionsData)
-    (last : Mark) (given : List PlainEvent) (p : TreeProperties) (fs : List OpenFrame) → GoodProperties p → Holes fs →
-    FairAt (X b k key s l) (InFrames (PropertiesFrame p ∷ fs)) →
-    frame_ends_at (X b k key s l) (InFrames (PropertiesFrame p ∷ fs)) ≡ false →
-    nat_le (blocks_open fs) o.block_nesting_limit ≡ true →
-    StepsLimited b k key s l o last given (PropertiesFrame p ∷ fs)
-behind_properties_steps b k key s l o last given NoProperties fs g h f n e = absurd g
-behind_properties_steps b k key s l o last given (One r i) fs g h f n e =
+    (b : Bool) (k : lexemes.LexemeKind) (key : Option KeyStart) (a : Arrival) (p : TreeProperties)
+    (fs : List OpenFrame) → GoodProperties p → Holes fs →
+    FairAt (arriving b k key a) (InFrames (PropertiesFrame p ∷ fs)) →
+    frame_ends_at (arriving b k key a) (InFrames (PropertiesFrame p ∷ fs)) ≡ false →
+    nat_le (blocks_open fs) a.options.block_nesting_limit ≡ true →
+    StepsLimited b k key a (PropertiesFrame p ∷ fs)
+behind_properties_steps b k key a NoProperties fs g h f n e = absurd g
+behind_properties_steps b k key a (One r i) fs g h f n e =
     subst
-    (LimitView o (X b k key s l) (knowing o s last given)
-    (take_token o (token_of b (at_kind l k key))
-    (state_of o (InFrames (PropertiesFrame (One r i) ∷ fs)) (knowing o s last given))))
+    (LimitView a.options (arriving b k key a) (beside_at a)
+    (take_token a.options (arriving_token b k key a) (parser_at (PropertiesFrame (One r i) ∷ fs) a)))
     (sym
     (continuing
-    (continues_node (behind_property (frames_room fs)) (One r i) (terminal_kind k key)
-    (at_of b s (at_kind l k key)))
+    (continues_node (behind_property (frames_room fs)) (One r i) (terminal_kind k key) (arriving b k key a).at)
     (InFrames (PropertiesFrame (One r i) ∷ fs))
     (with_event (alone_event (One r i) (frames_indent fs))
-    (finish_frames (X b k key s l) (properties_end (One r i)) fs))
-    (X b k key s l) n))
-    (behind_given b k key s l o last given (One r i) fs g h (place_or (One r i) fs g h) e (not_false _ n) f.1)
-behind_properties_steps b k key s l o last given (Two r i m j) fs g h f n e =
+    (finish_frames (arriving b k key a) (properties_end (One r i)) fs))
+    (arriving b k key a) n))
+    (behind_given b k key a (One r i) fs g h (place_or (One r i) fs g h) e (not_false _ n) f.1)
+behind_properties_steps b k key a (Two r i m j) fs g h f n e =
     subst
-    (LimitView o (X b k key s l) (knowing o s last given)
-    (take_token o (token_of b (at_kind l k key))
-    (state_of o (InFrames (PropertiesFrame (Two r i m j) ∷ fs)) (knowing o s last given))))
+    (LimitView a.options (arriving b k key a) (beside_at a)
+    (take_token a.options (arriving_token b k key a) (parser_at (PropertiesFrame (Two r i m j) ∷ fs) a)))
     (sym
     (continuing
-    (continues_node (behind_property (frames_room fs)) (Two r i m j) (terminal_kind k key)
-    (at_of b s (at_kind l k key)))
+    (continues_node (behind_property (frames_room fs)) (Two r i m j) (terminal_kind k key) (arriving b k key a).at)
     (InFrames (PropertiesFrame (Two r i m j) ∷ fs))
     (with_event (alone_event (Two r i m j) (frames_indent fs))
-    (finish_frames (X b k key s l) (properties_end (Two r i m j)) fs))
-    (X b k key s l) n))
-    (behind_given b k key s l o last given (Two r i m j) fs g h (place_or (Two r i m j) fs g h) e (not_false _ n) f.1)
+    (finish_frames (arriving b k key a) (properties_end (Two r i m j)) fs))
+    (arriving b k key a) n))
+    (behind_given b k key a (Two r i m j) fs g h (place_or (Two r i m j) fs g h) e (not_false _ n) f.1)

@@ -2,17 +2,14 @@
 use Rattle.granit_agreement.specs.Good.{Holes, at_root, at_entry, at_key, at_asked, at_value, at_item, at_curly}
 use Rattle.granit_agreement.specs.Good.{curly_key, curly_asked, curly_value, made_key, made_value, pair_asked}
 use Rattle.granit_agreement.specs.Good.{pair_value}
-use Rattle.granit_agreement.specs.Stepping.{MeansView, LimitView, at_kind, knowing}
-use Rattle.granit_agreement.specs.Steps.{topped, On, TokenOn, PartsAgree}
-use Rattle.granit_agreement.specs.View.{state_of}
-use Rattle.granit_language.specs.Seen.{at_of}
+use Rattle.granit_agreement.specs.Stepping.{MeansView, LimitView}
+use Rattle.granit_agreement.specs.Steps.{topped}
 use Rattle.granit_grammar.specs.EventMachine.{Key, OpenFrame, PropertiesFrame, MappingFrame, InFrames, EventState}
 use Rattle.granit_grammar.specs.EventMachine.{EventStep, GoesTo, StopsWith, after_events, frames_indent, put_frames}
 use Rattle.granit_grammar.specs.EventMachine.{flow_frame, part_frames}
 use Rattle.granit_grammar.specs.Guarded.{blocks_open, state_count, is_loose, fault_unless, first_fault}
 use Rattle.granit_language.specs.GrammarFault.{GrammarFault, TooManyBlocks}
 use Rattle.granit_language.specs.Node.{TreeProperties, NoProperties, One, Two}
-use Rattle.granit_language.specs.Scope.{Scope}
 use Rattle.granit_language.specs.Scoping.{scope_fault}
 use Rattle.granit_language.specs.Telling.{indent_told, event_told}
 use Rattle.granit_language.specs.Terminal.{Anchor, Tag, PartKind, Alias, Property, Scalar, Open, At}
@@ -27,11 +24,10 @@ use Rattle.std.specs.Prelude.{nat_le}
 use Rattle.granit_base.specs.Place.{Mark}
 use Rattle.granit_base.specs.Written.{Written}
 use Rattle.granit_base.specs.declared.style.ScalarStyle.{ScalarStyle}
-use Rattle.granit_error.specs.OptionsData.{OptionsData}
 use Rattle.granit_lexemes.specs.Outcome.{Fault, ◌>>=◌}
-use Rattle.granit_lexemes.specs.PlainEvent.{PlainEvent}
 use Rattle.granit_lexemes.specs.Lexeme as lexemes
 use Rattle.granit_machine.specs.Frames as machine
+use Rattle.granit_agreement.proofs.Arrivals.{Arrival, arriving, arriving_token, beside_at, parser_at, PartsAgree}
 use Rattle.granit_agreement.proofs.BlockBegins.{Limited, limited_by, full_limit, free_limit}
 use Rattle.granit_agreement.proofs.PartSteps.{HeadGiven, framed, scalar_parts, square_parts, curly_parts, anchor_parts}
 use Rattle.granit_agreement.proofs.PartSteps.{tag_parts, alias_parts}
@@ -67,13 +63,17 @@ OneMore d (StopsWith k) = ⊥
 abbrev pub KeyHole : lexemes.Lexeme → List OpenFrame → List OpenFrame
 KeyHole l fs = MappingFrame (suc l.start.place.column) Key ∷ fs
 
-abbrev pub KeyEvent : lexemes.LexemeKind → Scope → lexemes.Lexeme → TreeProperties → List OpenFrame → TreeEvent
-KeyEvent k s l p fs = mapping_start p (On k true s l) (frames_indent fs)
+abbrev pub KeyEvent : lexemes.LexemeKind → Arrival → TreeProperties → List OpenFrame → TreeEvent
+KeyEvent k a p fs = mapping_start p (arriving true k None a) (frames_indent fs)
 
-abbrev KeyBare :
-    OptionsData → lexemes.LexemeKind → Scope → lexemes.Lexeme → List OpenFrame → List PlainEvent →
-    Result ParserState Fault
-KeyBare o k s l fs given = bare o (TokenOn k true l) (state_of o (InFrames (KeyHole l fs)) (knowing o s l.start given))
+-- behind that event
+abbrev key_begun : lexemes.LexemeKind → TreeProperties → List OpenFrame → Arrival → Arrival
+key_begun k p fs a =
+    record a { last = a.lexeme.start; given = a.given ++ event_told a.options (KeyEvent k a p fs) }
+
+abbrev KeyBare : lexemes.LexemeKind → TreeProperties → List OpenFrame → Arrival → Result ParserState Fault
+KeyBare k p fs a =
+    bare a.options (arriving_token true k None a) (parser_at (KeyHole a.lexeme fs) (key_begun k p fs a))
 
 too_many :
     (n d : ℕ) (st : EventState) (f : Option GrammarFault) → nat_le n d ≡ true → state_count st ≡ suc d →
@@ -83,116 +83,103 @@ too_many n d st f e c g =
     ap₂ (λ b loose. first_fault (fault_unless b (TooManyBlocks loose)) f) (ap (λ m. nat_le m n) c ∙ full_limit n d e) g
 
 key_by :
-    (o : OptionsData) (k : lexemes.LexemeKind) (s : Scope) (l : lexemes.Lexeme) (last : Mark) (given : List PlainEvent)
-    (p : TreeProperties) (fs : List OpenFrame) (y : EventStep) (full : Bool) →
-    nat_le o.block_nesting_limit (blocks_open fs) ≡ full → OneMore (blocks_open fs) y →
-    MeansView o (On k true s l) (knowing o s l.start (given ++ event_told o (KeyEvent k s l p fs)))
-    (KeyBare o k s l fs (given ++ event_told o (KeyEvent k s l p fs))) y →
-    LimitView o (On k true s l) (knowing o s last given)
-    (Limited full l.start
-    (framed (machine.BlockMapping l.start.place.column machine.AtKey)
-    (popped o fs l.start
-    (HeadGiven o p block_mapping (empty_span l.start) (indent_told (frames_indent fs)) given)
-    (knowing o s last given)))
-    >>= bare o (TokenOn k true l))
-    (after_events (KeyEvent k s l p fs ∷ []) y)
+    (k : lexemes.LexemeKind) (a : Arrival) (p : TreeProperties) (fs : List OpenFrame) (y : EventStep) (full : Bool) →
+    nat_le a.options.block_nesting_limit (blocks_open fs) ≡ full → OneMore (blocks_open fs) y →
+    MeansView a.options (arriving true k None a) (beside_at (key_begun k p fs a)) (KeyBare k p fs a) y →
+    LimitView a.options (arriving true k None a) (beside_at a)
+    (Limited full a.lexeme.start
+    (framed (machine.BlockMapping a.lexeme.start.place.column machine.AtKey)
+    (popped a.options fs a.lexeme.start
+    (HeadGiven a.options p block_mapping (empty_span a.lexeme.start) (indent_told (frames_indent fs)) a.given)
+    (beside_at a)))
+    >>= bare a.options (arriving_token true k None a))
+    (after_events (KeyEvent k a p fs ∷ []) y)
 unfolding node_head
-key_by o k s l last given p fs (GoesTo st es) true e c h = (
+key_by k a p fs (GoesTo st es) true e c h = (
   TooManyBlocks false,
-  too_many o.block_nesting_limit (blocks_open fs) st
-      (scope_fault o (On k true s l).kind (On k true s l).at.scope) e c.0 c.1,
+  too_many a.options.block_nesting_limit (blocks_open fs) st
+      (scope_fault a.options (arriving true k None a).kind a.scope) e c.0 c.1,
   refl,
 )
-key_by o k s l last given p fs (GoesTo st es) false e c h =
-    event_before o (On k true s l) s l.start last given (KeyEvent k s l p fs)
-    (KeyBare o k s l fs (given ++ event_told o (KeyEvent k s l p fs))) (GoesTo st es)
-    (means_limited o (On k true s l) (knowing o s l.start (given ++ event_told o (KeyEvent k s l p fs)))
-    (KeyBare o k s l fs (given ++ event_told o (KeyEvent k s l p fs))) (GoesTo st es) h
-    (count_flat o.block_nesting_limit (suc (blocks_open fs)) st c.0
-    (free_limit o.block_nesting_limit (blocks_open fs) e)))
-key_by o k s l last given p fs (StopsWith n) full e c h = absurd c
+key_by k a p fs (GoesTo st es) false e c h =
+    event_before a.options (arriving true k None a) a.scope a.lexeme.start a.last a.given (KeyEvent k a p fs)
+    (KeyBare k p fs a) (GoesTo st es)
+    (means_limited a.options (arriving true k None a) (beside_at (key_begun k p fs a)) (KeyBare k p fs a)
+    (GoesTo st es) h
+    (count_flat a.options.block_nesting_limit (suc (blocks_open fs)) st c.0
+    (free_limit a.options.block_nesting_limit (blocks_open fs) e)))
+key_by k a p fs (StopsWith n) full e c h = absurd c
 
 -- the block mapping begins, and the lexeme is taken as its key's first
 abbrev pub KeyTaken :
-    PartKind → lexemes.LexemeKind → Scope → lexemes.Lexeme → TreeProperties → List OpenFrame → GrammarFault → EventStep
-KeyTaken m k s l p fs stop =
-    after_events (KeyEvent k s l p fs ∷ [])
-    (part_frames stop (KeyHole l fs) NoProperties m (at_of true s (at_kind l k None)))
+    PartKind → lexemes.LexemeKind → Arrival → TreeProperties → List OpenFrame → GrammarFault → EventStep
+KeyTaken m k a p fs stop =
+    after_events (KeyEvent k a p fs ∷ [])
+    (part_frames stop (KeyHole a.lexeme fs) NoProperties m (arriving true k None a).at)
 
 abbrev pub KeyNode : PartKind → lexemes.LexemeKind → Type 0
 KeyNode m k =
-    (s : Scope) (l : lexemes.Lexeme) (o : OptionsData) (last : Mark) (given : List PlainEvent) (p : TreeProperties)
-    (fs : List OpenFrame) (stop : GrammarFault) → Holes fs →
-    LimitView o (On k true s l) (knowing o s last given)
-    (node o (TokenOn k true l) (state_of o (InFrames (topped p fs)) (knowing o s last given)))
-    (KeyTaken m k s l p fs stop)
+    (a : Arrival) (p : TreeProperties) (fs : List OpenFrame) (stop : GrammarFault) → Holes fs →
+    LimitView a.options (arriving true k None a) (beside_at a)
+    (node a.options (arriving_token true k None a) (parser_at (topped p fs) a)) (KeyTaken m k a p fs stop)
 
 abbrev KeyResult :
-    PartKind → lexemes.LexemeKind → Scope → lexemes.Lexeme → OptionsData → Mark → List PlainEvent → TreeProperties →
-    List OpenFrame → GrammarFault → Result ParserState Fault → Type 0
-KeyResult m k s l o last given p fs stop r =
-    LimitView o (On k true s l) (knowing o s last given) (r >>= bare o (TokenOn k true l)) (KeyTaken m k s l p fs stop)
+    PartKind → lexemes.LexemeKind → Arrival → TreeProperties → List OpenFrame → GrammarFault →
+    Result ParserState Fault → Type 0
+KeyResult m k a p fs stop r =
+    LimitView a.options (arriving true k None a) (beside_at a)
+    (r >>= bare a.options (arriving_token true k None a)) (KeyTaken m k a p fs stop)
 
 key_begins :
-    (m : PartKind) (k : lexemes.LexemeKind) (s : Scope) (l : lexemes.Lexeme) (o : OptionsData) (last : Mark)
-    (given : List PlainEvent) (p : TreeProperties) (fs : List OpenFrame) (stop : GrammarFault) → Holes fs →
-    OneMore (blocks_open fs) (part_frames stop (KeyHole l fs) NoProperties m (at_of true s (at_kind l k None))) →
-    PartsAgree true m k s l o l.start (given ++ event_told o (KeyEvent k s l p fs)) NoProperties (KeyHole l fs) stop →
-    KeyResult m k s l o last given p fs stop
-    (begin_block o block_mapping l.start (machine.BlockMapping l.start.place.column machine.AtKey)
-    (state_of o (InFrames (topped p fs)) (knowing o s last given)))
-key_begins m k s l o last given p fs stop h c e =
-    subst (KeyResult m k s l o last given p fs stop)
+    (m : PartKind) (k : lexemes.LexemeKind) (a : Arrival) (p : TreeProperties) (fs : List OpenFrame)
+    (stop : GrammarFault) → Holes fs →
+    OneMore (blocks_open fs) (part_frames stop (KeyHole a.lexeme fs) NoProperties m (arriving true k None a).at) →
+    PartsAgree true m k (key_begun k p fs a) NoProperties (KeyHole a.lexeme fs) stop →
+    KeyResult m k a p fs stop
+    (begin_block a.options block_mapping a.lexeme.start
+    (machine.BlockMapping a.lexeme.start.place.column machine.AtKey) (parser_at (topped p fs) a))
+key_begins m k a p fs stop h c e =
+    subst (KeyResult m k a p fs stop)
     (sym
-    (limited_by o block_mapping l.start (machine.BlockMapping l.start.place.column machine.AtKey) p fs
-    (knowing o s last given) (nat_le o.block_nesting_limit (blocks_open fs)) h refl))
-    (key_by o k s l last given p fs
-    (part_frames stop (KeyHole l fs) NoProperties m (at_of true s (at_kind l k None)))
-    (nat_le o.block_nesting_limit (blocks_open fs)) refl c e)
-
-abbrev KeyGiven :
-    OptionsData → lexemes.LexemeKind → Scope → lexemes.Lexeme → TreeProperties → List OpenFrame → List PlainEvent →
-    List PlainEvent
-KeyGiven o k s l p fs given = given ++ event_told o (KeyEvent k s l p fs)
+    (limited_by a.options block_mapping a.lexeme.start
+    (machine.BlockMapping a.lexeme.start.place.column machine.AtKey) p fs
+    (beside_at a) (nat_le a.options.block_nesting_limit (blocks_open fs)) h refl))
+    (key_by k a p fs (part_frames stop (KeyHole a.lexeme fs) NoProperties m (arriving true k None a).at)
+    (nat_le a.options.block_nesting_limit (blocks_open fs)) refl c e)
 
 pub scalar_key : (style : ScalarStyle) (text : Written) → KeyNode (Scalar style text) (lexemes.Scalar style text)
-scalar_key style text s l o last given p fs stop h =
+scalar_key style text a p fs stop h =
     let k = lexemes.Scalar style text in
-    key_begins (Scalar style text) k s l o last given p fs stop h (refl, refl)
-    (scalar_parts true style text s l o l.start (KeyGiven o k s l p fs given) NoProperties (KeyHole l fs) stop
-    (at_key tt h))
+    key_begins (Scalar style text) k a p fs stop h (refl, refl)
+    (scalar_parts true style text (key_begun k p fs a) NoProperties (KeyHole a.lexeme fs) stop (at_key tt h))
 
 pub square_key : KeyNode (Open Square) (lexemes.Open Square)
-square_key s l o last given p fs stop h =
-    key_begins (Open Square) (lexemes.Open Square) s l o last given p fs stop h (refl, refl)
-    (square_parts true s l o l.start (KeyGiven o (lexemes.Open Square) s l p fs given) NoProperties (KeyHole l fs) stop
-    (at_key tt h))
+square_key a p fs stop h =
+    key_begins (Open Square) (lexemes.Open Square) a p fs stop h (refl, refl)
+    (square_parts true (key_begun (lexemes.Open Square) p fs a) NoProperties (KeyHole a.lexeme fs) stop (at_key tt h))
 
 pub curly_key_node : KeyNode (Open Curly) (lexemes.Open Curly)
-curly_key_node s l o last given p fs stop h =
-    key_begins (Open Curly) (lexemes.Open Curly) s l o last given p fs stop h (refl, refl)
-    (curly_parts true s l o l.start (KeyGiven o (lexemes.Open Curly) s l p fs given) NoProperties (KeyHole l fs) stop
-    (at_key tt h))
+curly_key_node a p fs stop h =
+    key_begins (Open Curly) (lexemes.Open Curly) a p fs stop h (refl, refl)
+    (curly_parts true (key_begun (lexemes.Open Curly) p fs a) NoProperties (KeyHole a.lexeme fs) stop (at_key tt h))
 
 pub anchor_key : (name : Written) → KeyNode (Property (Anchor name)) (lexemes.Anchor name)
-anchor_key name s l o last given p fs stop h =
+anchor_key name a p fs stop h =
     let k = lexemes.Anchor name in
-    key_begins (Property (Anchor name)) k s l o last given p fs stop h (refl, refl)
-    (anchor_parts true name s l o l.start (KeyGiven o k s l p fs given) NoProperties (KeyHole l fs) stop (at_key tt h)
-    refl)
+    key_begins (Property (Anchor name)) k a p fs stop h (refl, refl)
+    (anchor_parts true name (key_begun k p fs a) NoProperties (KeyHole a.lexeme fs) stop (at_key tt h) refl)
 
 pub tag_key : (handle suffix : List ℕ) → KeyNode (Property (Tag handle suffix)) (lexemes.Tag handle suffix)
-tag_key handle suffix s l o last given p fs stop h =
+tag_key handle suffix a p fs stop h =
     let k = lexemes.Tag handle suffix in
-    key_begins (Property (Tag handle suffix)) k s l o last given p fs stop h (refl, refl)
-    (tag_parts true handle suffix s l o l.start (KeyGiven o k s l p fs given) NoProperties (KeyHole l fs) stop
-    (at_key tt h) refl)
+    key_begins (Property (Tag handle suffix)) k a p fs stop h (refl, refl)
+    (tag_parts true handle suffix (key_begun k p fs a) NoProperties (KeyHole a.lexeme fs) stop (at_key tt h) refl)
 
 pub alias_key : (name : Written) → KeyNode (Alias name) (lexemes.Alias name)
-alias_key name s l o last given p fs stop h =
+alias_key name a p fs stop h =
     let k = lexemes.Alias name in
-    key_begins (Alias name) k s l o last given p fs stop h (refl, refl)
-    (alias_parts true name s l o l.start (KeyGiven o k s l p fs given) (KeyHole l fs) stop (at_key tt h))
+    key_begins (Alias name) k a p fs stop h (refl, refl)
+    (alias_parts true name (key_begun k p fs a) (KeyHole a.lexeme fs) stop (at_key tt h))
 
 -- ---- another lexeme of a node
 
@@ -234,14 +221,14 @@ part_flat n stop fs (Two k j m q) (Open Curly) i h e =
 
 -- the same with the limit
 pub part_limited :
-    (b : Bool) (m : PartKind) (k : lexemes.LexemeKind) (s : Scope) (l : lexemes.Lexeme) (o : OptionsData) (last : Mark)
-    (given : List PlainEvent) (p : TreeProperties) (fs : List OpenFrame) (stop : GrammarFault) → Holes fs →
-    nat_le (blocks_open fs) o.block_nesting_limit ≡ true → PartsAgree b m k s l o last given p fs stop →
-    LimitView o (On k b s l) (knowing o s last given)
-    (bare o (TokenOn k b l) (state_of o (InFrames (topped p fs)) (knowing o s last given)))
-    (part_frames stop fs p m (at_of b s (at_kind l k None)))
-part_limited b m k s l o last given p fs stop h e f =
-    means_limited o (On k b s l) (knowing o s last given)
-    (bare o (TokenOn k b l) (state_of o (InFrames (topped p fs)) (knowing o s last given)))
-    (part_frames stop fs p m (at_of b s (at_kind l k None))) f
-    (part_flat o.block_nesting_limit stop fs p m (at_of b s (at_kind l k None)) h e)
+    (b : Bool) (m : PartKind) (k : lexemes.LexemeKind) (a : Arrival) (p : TreeProperties) (fs : List OpenFrame)
+    (stop : GrammarFault) → Holes fs →
+    nat_le (blocks_open fs) a.options.block_nesting_limit ≡ true → PartsAgree b m k a p fs stop →
+    LimitView a.options (arriving b k None a) (beside_at a)
+    (bare a.options (arriving_token b k None a) (parser_at (topped p fs) a))
+    (part_frames stop fs p m (arriving b k None a).at)
+part_limited b m k a p fs stop h e f =
+    means_limited a.options (arriving b k None a) (beside_at a)
+    (bare a.options (arriving_token b k None a) (parser_at (topped p fs) a))
+    (part_frames stop fs p m (arriving b k None a).at) f
+    (part_flat a.options.block_nesting_limit stop fs p m (arriving b k None a).at h e)

@@ -354,19 +354,17 @@ asks_by_column o false key p (lexemes.Scalar style text) col under f loose = ref
 
 -- at each place for a node
 going_block :
-    (o : OptionsData) (room : Room) (f : Bool) (b : Bool) (s : Scope) (l : lexemes.Lexeme) (p : TreeProperties)
-    (under : Option ℕ)
-    (loose : Bool) (r : Bool) (d : Bool) →
-    GoodProperties p → l.in_flow ≡ false → is_right_of (Some l.start.place.column) under ≡ r → loose ≡ d →
-    continues_node room p (terminal_kind l.kind l.key) (at_of b s l) ≡ Grows r d b p (terminal_kind l.kind l.key) →
+    (o : OptionsData) (room : Room) (b : Bool) (s : Scope) (l : lexemes.Lexeme) (p : TreeProperties)
+    (under : Option ℕ) (loose : Bool) → GoodProperties p → l.in_flow ≡ false →
+    continues_node room p (terminal_kind l.kind l.key) (at_of b s l)
+    ≡ Grows (is_right_of (Some l.start.place.column) under) loose b p (terminal_kind l.kind l.key) →
     Asks o (l.in_flow || is_right_of (column_of_token (token_sort b l.key l.kind) l.start.place.column) under) l.in_flow
     loose b l.key p l.kind
     ≡ continues_node room p (terminal_kind l.kind l.key) (at_of b s l)
-going_block o room f b s l p under loose r d g flow right e h =
+going_block o room b s l p under loose g flow h =
     asks_by_column o b l.key p l.kind l.start.place.column under l.in_flow loose
     ∙ (ap (λ f. Asks o (f || is_right_of (Some l.start.place.column) under) f loose b l.key p l.kind) flow
-    ∙ (ap₂ (λ r d. Asks o r false d b l.key p l.kind) right e
-    ∙ (grows_block o r d b l.key p l.kind g ∙ sym h)))
+    ∙ (grows_block o (is_right_of (Some l.start.place.column) under) loose b l.key p l.kind g ∙ sym h))
 
 positive_right : (col c : ℕ) → IsPositive c → is_right_of (Some col) (Some (one_less c)) ≡ nat_lt c (suc col)
 positive_right col c q = right_column col c q
@@ -377,6 +375,21 @@ loose_column col (suc c) q = grind (arith, nat_tests)
 
 zero_right : (col : ℕ) → true ≡ nat_lt 0 (suc col)
 zero_right col = grind (arith, nat_tests)
+
+-- where a value may stand
+going_value :
+    (o : OptionsData) (b : Bool) (s : Scope) (l : lexemes.Lexeme) (p : TreeProperties) (c : ℕ) → GoodProperties p →
+    IsPositive c → l.in_flow ≡ false →
+    Asks o
+    (l.in_flow
+    || is_right_of (column_of_token (token_sort b l.key l.kind) l.start.place.column) (Some (one_less c))) l.in_flow
+    (one_less c == l.start.place.column) b l.key p l.kind
+    ≡ continues_node (ValueIn c) p (terminal_kind l.kind l.key) (at_of b s l)
+going_value o b s l p c g q flow =
+    going_block o (ValueIn c) b s l p (Some (one_less c)) (one_less c == l.start.place.column) g flow
+    (goes_value c p (terminal_kind l.kind l.key) (at_of b s l)
+    ∙ ap₂ (λ r d. Grows r d b p (terminal_kind l.kind l.key)) (sym (positive_right l.start.place.column c q))
+    (sym (loose_column l.start.place.column c q)))
 
 going_flow :
     (o : OptionsData) (b : Bool) (s : Scope) (l : lexemes.Lexeme) (p : TreeProperties) (under : Option ℕ) (loose : Bool)
@@ -398,21 +411,15 @@ goes_on_same :
     ≡ continues_node (behind_property (frames_room fs)) p (terminal_kind l.kind l.key) (at_of b s l)
 unfolding goes_on_with
 goes_on_same o b s l p fs g at_root flow f =
-    going_block o (RightOf 0) false b s l p None false (nat_lt 0 (suc l.start.place.column)) false g flow
-    (zero_right l.start.place.column) refl (goes_right 0 p (terminal_kind l.kind l.key) (at_of b s l))
+    going_block o (RightOf 0) b s l p None false g flow
+    (goes_right 0 p (terminal_kind l.kind l.key) (at_of b s l)
+    ∙ ap (λ r. Grows r false b p (terminal_kind l.kind l.key)) (sym (zero_right l.start.place.column)))
 goes_on_same o b s l p fs g (at_entry {c = c} q h) flow f =
-    going_block o (RightOf c) false b s l p (Some (one_less c)) false (nat_lt c (suc l.start.place.column)) false g flow
-    (positive_right l.start.place.column c q) refl (goes_right c p (terminal_kind l.kind l.key) (at_of b s l))
-goes_on_same o b s l p fs g (at_asked {c = c} q h) flow f =
-    going_block o (ValueIn c) false b s l p (Some (one_less c)) (one_less c == l.start.place.column)
-    (nat_lt c (suc l.start.place.column)) (suc l.start.place.column == c) g flow
-    (positive_right l.start.place.column c q) (loose_column l.start.place.column c q)
-    (goes_value c p (terminal_kind l.kind l.key) (at_of b s l))
-goes_on_same o b s l p fs g (at_value {c = c} q h) flow f =
-    going_block o (ValueIn c) false b s l p (Some (one_less c)) (one_less c == l.start.place.column)
-    (nat_lt c (suc l.start.place.column)) (suc l.start.place.column == c) g flow
-    (positive_right l.start.place.column c q) (loose_column l.start.place.column c q)
-    (goes_value c p (terminal_kind l.kind l.key) (at_of b s l))
+    going_block o (RightOf c) b s l p (Some (one_less c)) false g flow
+    (goes_right c p (terminal_kind l.kind l.key) (at_of b s l)
+    ∙ ap (λ r. Grows r false b p (terminal_kind l.kind l.key)) (sym (positive_right l.start.place.column c q)))
+goes_on_same o b s l p fs g (at_asked {c = c} q h) flow f = going_value o b s l p c g q flow
+goes_on_same o b s l p fs g (at_value {c = c} q h) flow f = going_value o b s l p c g q flow
 goes_on_same o b s l p fs g (at_key {c = c} q h) flow f =
     asks_by_column o b l.key p l.kind l.start.place.column (Some (one_less c)) l.in_flow false
     ∙ (ap (λ f. Asks o (f || is_right_of (Some l.start.place.column) (Some (one_less c))) f false b l.key p l.kind) flow

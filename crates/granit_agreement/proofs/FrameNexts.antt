@@ -8,7 +8,7 @@ use Rattle.granit_agreement.specs.Good.{made_done, square_ask_done, square_done,
 use Rattle.granit_agreement.specs.Running.{NextView}
 use Rattle.granit_agreement.specs.Stepping.{taken, LimitView, at_kind, knowing, known_behind, moved_on}
 use Rattle.granit_agreement.specs.View.{Beside, state_of, give_all}
-use Rattle.granit_language.specs.Seen.{terminal_kind, terminal_of}
+use Rattle.granit_language.specs.Seen.{terminal_kind}
 use Rattle.granit_grammar.specs.EventMachine.{OpenFrame, IsFresh, HasDirectives, IsRooted, InFrames, IsEnded, Ending}
 use Rattle.granit_grammar.specs.EventMachine.{ending, ended_by, EventStep, GoesTo, StopsWith, take_frames}
 use Rattle.granit_grammar.specs.Guarded.{blocks_open}
@@ -23,8 +23,8 @@ use Rattle.granit_lexemes.specs.Lexeme.{KeyStart}
 use Rattle.granit_machine.specs.BlockSteps.{in_sequence, behind_indicator}
 use Rattle.granit_machine.specs.Frames.{ParserState}
 use Rattle.granit_machine.specs.Parser.{take_token}
-use Rattle.granit_machine.specs.TokenSort.{Token, TokenSort, token_of, token_sort, is_of_stream, BeginsKey, BeginsNode}
-use Rattle.granit_machine.specs.TokenSort.{DashToken, QuestionToken, BareColon, KeyedColon, CommaToken, SequenceCloser}
+use Rattle.granit_machine.specs.TokenSort.{Token, TokenSort, token_sort, is_of_stream, BeginsKey, BeginsNode, DashToken}
+use Rattle.granit_machine.specs.TokenSort.{QuestionToken, BareColon, KeyedColon, CommaToken, SequenceCloser}
 use Rattle.granit_machine.specs.TokenSort.{MappingCloser, OfStream}
 use Rattle.std.proofs.Common.{◌≡◌, Bool, true, false, not, List, [], refl, sym, ap, ◌∙◌, subst, Option, None, Result}
 use Rattle.std.proofs.Common.{Ok, Err}
@@ -34,13 +34,11 @@ use Rattle.granit_error.specs.OptionsData.{OptionsData}
 use Rattle.granit_lexemes.specs.Outcome.{Fault}
 use Rattle.granit_lexemes.specs.PlainEvent.{PlainEvent}
 use Rattle.granit_lexemes.specs.Lexeme as lexemes
+use Rattle.granit_agreement.proofs.Arrivals.{Arrival, arriving, arriving_token, beside_at, parser_at}
 use Rattle.granit_agreement.proofs.FrameSteps.{frame_steps}
 use Rattle.granit_agreement.proofs.GoodSteps.{GoodEnding, ends_well, GoodStep, goes_well, stops_well, after_step}
 use Rattle.granit_agreement.proofs.GoodSteps.{closes_stand, take_stands}
 use Rattle.granit_agreement.proofs.Sorts.{sort_is}
-
-abbrev X : Bool → lexemes.LexemeKind → Option KeyStart → Scope → lexemes.Lexeme → Terminal
-X b k key s l = terminal_of b s (at_kind l k key)
 
 -- ---- what is of the stream is refused inside a document
 
@@ -221,39 +219,39 @@ taken_well x (ending (HasDirectives v) es) (ends_well g) e = absurd g
 taken_well x (ending IsEnded es) (ends_well g) e = absurd g
 
 frame_by :
-    (b : Bool) (k : lexemes.LexemeKind) (key : Option KeyStart) (s : Scope) (l : lexemes.Lexeme) (o : OptionsData)
-    (last : Mark) (given : List PlainEvent) (fs : List OpenFrame) (stream : Bool) → Good (InFrames fs) →
-    FairAt (X b k key s l) (InFrames fs) → frame_ends_at (X b k key s l) (InFrames fs) ≡ false →
-    nat_le (blocks_open fs) o.block_nesting_limit ≡ true → is_stream_kind (terminal_kind k key) ≡ stream →
-    s.pending ≡ [] → s.version ≡ None →
-    NextView o (X b k key s l) s given
-    (take_token o (token_of b (at_kind l k key)) (state_of o (InFrames fs) (knowing o s last given)))
-    (taken (ended_by (X b k key s l) (InFrames fs)) (X b k key s l))
-frame_by b k key s l o last given fs false g f n e t q v =
-    limit_next o (X b k key s l) s last given
-    (take_token o (token_of b (at_kind l k key)) (state_of o (InFrames fs) (knowing o s last given)))
-    (taken (ended_by (X b k key s l) (InFrames fs)) (X b k key s l)) (frame_steps b k key s l o last given fs g f n e)
-    (taken_well (X b k key s l) (ended_by (X b k key s l) (InFrames fs)) (closes_stand (X b k key s l) fs g) t) t q v
-frame_by b k key s l o last given fs true g f n e t q v =
-    err_next o (X b k key s l) (knowing o s last given) s given
-    (take_token o (token_of b (at_kind l k key)) (state_of o (InFrames fs) (knowing o s last given)))
-    (taken (ended_by (X b k key s l) (InFrames fs)) (X b k key s l))
+    (b : Bool) (k : lexemes.LexemeKind) (key : Option KeyStart) (a : Arrival) (fs : List OpenFrame) (stream : Bool) →
+    Good (InFrames fs) →
+    FairAt (arriving b k key a) (InFrames fs) → frame_ends_at (arriving b k key a) (InFrames fs) ≡ false →
+    nat_le (blocks_open fs) a.options.block_nesting_limit ≡ true → is_stream_kind (terminal_kind k key) ≡ stream →
+    a.scope.pending ≡ [] → a.scope.version ≡ None →
+    NextView a.options (arriving b k key a) a.scope a.given
+    (take_token a.options (arriving_token b k key a) (parser_at fs a))
+    (taken (ended_by (arriving b k key a) (InFrames fs)) (arriving b k key a))
+frame_by b k key a fs false g f n e t q v =
+    limit_next a.options (arriving b k key a) a.scope a.last a.given
+    (take_token a.options (arriving_token b k key a) (parser_at fs a))
+    (taken (ended_by (arriving b k key a) (InFrames fs)) (arriving b k key a)) (frame_steps b k key a fs g f n e)
+    (taken_well (arriving b k key a) (ended_by (arriving b k key a) (InFrames fs))
+    (closes_stand (arriving b k key a) fs g) t) t q v
+frame_by b k key a fs true g f n e t q v =
+    err_next a.options (arriving b k key a) (beside_at a) a.scope a.given
+    (take_token a.options (arriving_token b k key a) (parser_at fs a))
+    (taken (ended_by (arriving b k key a) (InFrames fs)) (arriving b k key a))
     (subst
     (λ q.
     IsErr
-    (take_token o (record { lexeme = at_kind l k key; sort = q })
-    (state_of o (InFrames fs) (knowing o s last given))))
+    (take_token a.options (record { lexeme = at_kind a.lexeme k key; sort = q }) (parser_at fs a)))
     (sym (sort_stream (token_sort b key k) ((sort_is b key k).stream ∙ t)))
-    (stream_errs o (at_kind l k key) (X b k key s l) (knowing o s last given) fs g t n))
-    (frame_steps b k key s l o last given fs g f n e)
+    (stream_errs a.options (at_kind a.lexeme k key) (arriving b k key a) (beside_at a) fs g t n))
+    (frame_steps b k key a fs g f n e)
 
 pub frame_next :
-    (b : Bool) (k : lexemes.LexemeKind) (key : Option KeyStart) (s : Scope) (l : lexemes.Lexeme) (o : OptionsData)
-    (last : Mark) (given : List PlainEvent) (fs : List OpenFrame) → Good (InFrames fs) →
-    FairAt (X b k key s l) (InFrames fs) → frame_ends_at (X b k key s l) (InFrames fs) ≡ false →
-    nat_le (blocks_open fs) o.block_nesting_limit ≡ true → s.pending ≡ [] → s.version ≡ None →
-    NextView o (X b k key s l) s given
-    (take_token o (token_of b (at_kind l k key)) (state_of o (InFrames fs) (knowing o s last given)))
-    (taken (ended_by (X b k key s l) (InFrames fs)) (X b k key s l))
-frame_next b k key s l o last given fs g f n e q v =
-    frame_by b k key s l o last given fs (is_stream_kind (terminal_kind k key)) g f n e refl q v
+    (b : Bool) (k : lexemes.LexemeKind) (key : Option KeyStart) (a : Arrival) (fs : List OpenFrame) →
+    Good (InFrames fs) →
+    FairAt (arriving b k key a) (InFrames fs) → frame_ends_at (arriving b k key a) (InFrames fs) ≡ false →
+    nat_le (blocks_open fs) a.options.block_nesting_limit ≡ true → a.scope.pending ≡ [] → a.scope.version ≡ None →
+    NextView a.options (arriving b k key a) a.scope a.given
+    (take_token a.options (arriving_token b k key a) (parser_at fs a))
+    (taken (ended_by (arriving b k key a) (InFrames fs)) (arriving b k key a))
+frame_next b k key a fs g f n e q v =
+    frame_by b k key a fs (is_stream_kind (terminal_kind k key)) g f n e refl q v

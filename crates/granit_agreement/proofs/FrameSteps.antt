@@ -5,25 +5,22 @@ use Rattle.granit_agreement.specs.Good.{curly_asked, curly_value, made_key, made
 use Rattle.granit_agreement.specs.Good.{hole, behind_properties, past_entry, key_done, ask_done, pair_done, item_done}
 use Rattle.granit_agreement.specs.Good.{curly_key_done, curly_ask_done, curly_solo, curly_done, made_key_done}
 use Rattle.granit_agreement.specs.Good.{made_done, square_ask_done, square_done}
-use Rattle.granit_agreement.specs.Stepping.{taken, StepView, LimitView, at_kind, knowing}
-use Rattle.granit_agreement.specs.Steps.{StepsLimited, Steps, StepsM}
-use Rattle.granit_agreement.specs.View.{Beside, state_of}
-use Rattle.granit_language.specs.Seen.{terminal_of}
+use Rattle.granit_agreement.specs.Stepping.{taken, StepView, LimitView}
+use Rattle.granit_agreement.specs.Steps.{Steps}
+use Rattle.granit_agreement.specs.View.{Beside}
 use Rattle.granit_grammar.specs.EventMachine.{OpenFrame, InFrames, EventStep, GoesTo, StopsWith, ended_by}
 use Rattle.granit_grammar.specs.Guarded.{blocks_open}
-use Rattle.granit_language.specs.Scope.{Scope}
 use Rattle.granit_language.specs.Terminal.{Terminal}
 use Rattle.granit_lexemes.specs.Lexeme.{KeyStart}
 use Rattle.granit_machine.specs.Frames.{ParserState}
 use Rattle.granit_machine.specs.Parser.{take_token}
-use Rattle.granit_machine.specs.TokenSort.{token_of}
 use Rattle.std.proofs.Common.{◌≡◌, Bool, true, false, List, Option, Result, Ok, Err}
 use Rattle.std.specs.Prelude.{nat_le}
-use Rattle.granit_base.specs.Place.{Mark}
 use Rattle.granit_error.specs.OptionsData.{OptionsData}
 use Rattle.granit_lexemes.specs.Outcome.{Fault}
-use Rattle.granit_lexemes.specs.PlainEvent.{PlainEvent}
 use Rattle.granit_lexemes.specs.Lexeme as lexemes
+use Rattle.granit_agreement.proofs.Arrivals.{Arrival, arriving, arriving_token, beside_at, parser_at, StepsM}
+use Rattle.granit_agreement.proofs.Arrivals.{StepsLimited}
 use Rattle.granit_agreement.proofs.BehindPlaces.{behind_properties_steps}
 use Rattle.granit_agreement.proofs.DoneCalms.{Calm, item_done_calm, curly_key_done_calm, curly_done_calm}
 use Rattle.granit_agreement.proofs.DoneCalms.{curly_solo_calm, curly_ask_done_calm, made_key_done_calm, made_done_calm}
@@ -37,9 +34,6 @@ use Rattle.granit_agreement.proofs.MoreSteps.{made_done_steps, square_asked_step
 use Rattle.granit_agreement.proofs.SequencePlaces.{root_steps, entry_steps, past_steps}
 use Rattle.granit_agreement.proofs.Views.{Flat, means_limited}
 
-abbrev X : Bool → lexemes.LexemeKind → Option KeyStart → Scope → lexemes.Lexeme → Terminal
-X b k key s l = terminal_of b s (at_kind l k key)
-
 calm_limited :
     (o : OptionsData) (x : Terminal) (d : Beside) (r : Result ParserState Fault) (y : EventStep) → StepView o x d r y →
     Calm o x y → LimitView o x d r y
@@ -49,96 +43,96 @@ calm_limited o x d (Ok p) (StopsWith k) h c = h
 calm_limited o x d (Err f) (StopsWith k) h c = h
 
 flat_step :
-    (b : Bool) (k : lexemes.LexemeKind) (key : Option KeyStart) (s : Scope) (l : lexemes.Lexeme) (o : OptionsData)
-    (last : Mark) (given : List PlainEvent) (fs : List OpenFrame) → StepsM b k key s l o last given fs →
-    Flat o.block_nesting_limit (taken (ended_by (X b k key s l) (InFrames fs)) (X b k key s l)) →
-    StepsLimited b k key s l o last given fs
-flat_step b k key s l o last given fs h c =
-    means_limited o (X b k key s l) (knowing o s last given)
-    (take_token o (token_of b (at_kind l k key)) (state_of o (InFrames fs) (knowing o s last given)))
-    (taken (ended_by (X b k key s l) (InFrames fs)) (X b k key s l)) h c
+    (b : Bool) (k : lexemes.LexemeKind) (key : Option KeyStart) (a : Arrival) (fs : List OpenFrame) →
+    StepsM b k key a fs →
+    Flat a.options.block_nesting_limit (taken (ended_by (arriving b k key a) (InFrames fs)) (arriving b k key a)) →
+    StepsLimited b k key a fs
+flat_step b k key a fs h c =
+    means_limited a.options (arriving b k key a) (beside_at a)
+    (take_token a.options (arriving_token b k key a) (parser_at fs a))
+    (taken (ended_by (arriving b k key a) (InFrames fs)) (arriving b k key a)) h c
 
 calm_step :
-    (b : Bool) (k : lexemes.LexemeKind) (key : Option KeyStart) (s : Scope) (l : lexemes.Lexeme) (o : OptionsData)
-    (last : Mark) (given : List PlainEvent) (fs : List OpenFrame) → Steps b k key s l o (knowing o s last given) fs →
-    Calm o (X b k key s l) (taken (ended_by (X b k key s l) (InFrames fs)) (X b k key s l)) →
-    StepsLimited b k key s l o last given fs
-calm_step b k key s l o last given fs h c =
-    calm_limited o (X b k key s l) (knowing o s last given)
-    (take_token o (token_of b (at_kind l k key)) (state_of o (InFrames fs) (knowing o s last given)))
-    (taken (ended_by (X b k key s l) (InFrames fs)) (X b k key s l)) h c
+    (b : Bool) (k : lexemes.LexemeKind) (key : Option KeyStart) (a : Arrival) (fs : List OpenFrame) →
+    Steps b k key a.scope a.lexeme a.options (beside_at a) fs →
+    Calm a.options (arriving b k key a) (taken (ended_by (arriving b k key a) (InFrames fs)) (arriving b k key a)) →
+    StepsLimited b k key a fs
+calm_step b k key a fs h c =
+    calm_limited a.options (arriving b k key a) (beside_at a)
+    (take_token a.options (arriving_token b k key a) (parser_at fs a))
+    (taken (ended_by (arriving b k key a) (InFrames fs)) (arriving b k key a)) h c
 
 -- where nothing more ends before the lexeme
 pub frame_steps :
-    (b : Bool) (k : lexemes.LexemeKind) (key : Option KeyStart) (s : Scope) (l : lexemes.Lexeme) (o : OptionsData)
-    (last : Mark) (given : List PlainEvent) (fs : List OpenFrame) → Good (InFrames fs) →
-    FairAt (X b k key s l) (InFrames fs) → frame_ends_at (X b k key s l) (InFrames fs) ≡ false →
-    nat_le (blocks_open fs) o.block_nesting_limit ≡ true → StepsLimited b k key s l o last given fs
-frame_steps b k key s l o last given fs (hole (at_root {m = m})) f n e = root_steps b k key s l o last given m n e
-frame_steps b k key s l o last given fs (hole (at_entry {loose = loose} {c = c} {w = w} {fs = gs} p h)) f n e =
-    entry_steps b k key s l o last given loose c w gs p h n e
-frame_steps b k key s l o last given fs (hole (at_key p h)) f n e = absurd f
-frame_steps b k key s l o last given fs (hole (at_asked {c = c} {fs = gs} p h)) f n e =
-    mapping_steps b k key s l o last given c _ gs asking p h n e
-frame_steps b k key s l o last given fs (hole (at_value {c = c} {w = w} {fs = gs} p h)) f n e =
-    mapping_steps b k key s l o last given c _ gs valued p h n e
-frame_steps b k key s l o last given fs (hole (at_item {fs = gs} h)) f n e =
-    flat_step b k key s l o last given fs (flow.item_steps b k key s l o last given gs h)
-    (item_flat b k key s l o gs h e)
-frame_steps b k key s l o last given fs (hole (at_curly {fs = gs} h)) f n e =
-    flat_step b k key s l o last given fs (flow.curly_steps b k key s l o last given gs h)
-    (curly_flat b k key s l o gs h e)
-frame_steps b k key s l o last given fs (hole (curly_key h)) f n e = absurd f
-frame_steps b k key s l o last given fs (hole (curly_asked {fs = gs} h)) f n e =
-    flat_step b k key s l o last given fs (flow.curly_asked_steps b k key s l o last given gs h)
-    (curly_asked_flat b k key s l o gs h e)
-frame_steps b k key s l o last given fs (hole (curly_value {w = w} {fs = gs} h)) f n e =
-    flat_step b k key s l o last given fs (flow.curly_value_steps w b k key s l o last given gs h)
-    (curly_value_flat b k key s l o w gs h e)
-frame_steps b k key s l o last given fs (hole (made_key h)) f n e = absurd f
-frame_steps b k key s l o last given fs (hole (made_value {w = w} {fs = gs} h)) f n e =
-    flat_step b k key s l o last given fs (flow.made_value_steps w b k key s l o last given gs h (both_false _ _ n f))
-    (made_value_flat b k key s l o w gs h e (both_false _ _ n f))
-frame_steps b k key s l o last given fs (hole (pair_asked {fs = gs} h)) f n e =
-    flat_step b k key s l o last given fs (flow.pair_asked_steps b k key s l o last given gs h n)
-    (pair_asked_flat b k key s l o gs h e n)
-frame_steps b k key s l o last given fs (hole (pair_value {w = w} {fs = gs} h)) f n e =
-    flat_step b k key s l o last given fs (flow.pair_value_steps w b k key s l o last given gs h n)
-    (pair_value_flat b k key s l o w gs h e n)
-frame_steps b k key s l o last given fs (behind_properties {p = p} {fs = gs} g h) f n e =
-    behind_properties_steps b k key s l o last given p gs g h f n e
-frame_steps b k key s l o last given fs (past_entry {loose = loose} {c = c} {fs = gs} p h) f n e =
-    past_steps b k key s l o last given loose c gs p n e
-frame_steps b k key s l o last given fs (key_done {c = c} {fs = gs} p h) f n e =
-    calm_step b k key s l o last given fs (done.key_done_steps c b k key s l o (knowing o s last given) gs h)
-    (block_key_calm b k key s l o c gs h e)
-frame_steps b k key s l o last given fs (ask_done {c = c} {fs = gs} p h) f n e =
-    mapping_steps b k key s l o last given c _ gs asked p h n e
-frame_steps b k key s l o last given fs (pair_done {c = c} {fs = gs} p h) f n e =
-    mapping_steps b k key s l o last given c _ gs paired p h n e
-frame_steps b k key s l o last given fs (item_done {fs = gs} h) f n e =
-    calm_step b k key s l o last given fs (done.item_done_steps b k key s l o (knowing o s last given) gs h)
-    (item_done_calm b k key s l o gs h e)
-frame_steps b k key s l o last given fs (curly_key_done {fs = gs} h) f n e =
-    calm_step b k key s l o last given fs (done.curly_key_steps b k key s l o (knowing o s last given) gs h)
-    (curly_key_done_calm b k key s l o gs h e)
-frame_steps b k key s l o last given fs (curly_ask_done {fs = gs} h) f n e =
-    calm_step b k key s l o last given fs (done.curly_asked_steps b k key s l o (knowing o s last given) gs h)
-    (curly_ask_done_calm b k key s l o gs h e)
-frame_steps b k key s l o last given fs (curly_solo {fs = gs} h) f n e =
-    calm_step b k key s l o last given fs (done.curly_solo_steps b k key s l o (knowing o s last given) gs h)
-    (curly_solo_calm b k key s l o gs h e)
-frame_steps b k key s l o last given fs (curly_done {fs = gs} h) f n e =
-    calm_step b k key s l o last given fs (done.curly_done_steps b k key s l o (knowing o s last given) gs h)
-    (curly_done_calm b k key s l o gs h e)
-frame_steps b k key s l o last given fs (made_key_done {fs = gs} h) f n e =
-    calm_step b k key s l o last given fs (done.made_key_steps b k key s l o (knowing o s last given) gs h)
-    (made_key_done_calm b k key s l o gs h e)
-frame_steps b k key s l o last given fs (made_done {fs = gs} h) f n e =
-    calm_step b k key s l o last given fs
-    (made_done_steps b k key s l o (knowing o s last given) gs h (both_false _ _ n f))
-    (made_done_calm b k key s l o gs h e (both_false _ _ n f))
-frame_steps b k key s l o last given fs (square_ask_done {fs = gs} h) f n e =
-    calm_step b k key s l o last given fs (square_asked_steps b k key s l o (knowing o s last given) gs h n)
-    (square_ask_done_calm b k key s l o gs h e n)
-frame_steps b k key s l o last given fs (square_done h) f n e = cc (n)
+    (b : Bool) (k : lexemes.LexemeKind) (key : Option KeyStart) (a : Arrival) (fs : List OpenFrame) →
+    Good (InFrames fs) →
+    FairAt (arriving b k key a) (InFrames fs) → frame_ends_at (arriving b k key a) (InFrames fs) ≡ false →
+    nat_le (blocks_open fs) a.options.block_nesting_limit ≡ true → StepsLimited b k key a fs
+frame_steps b k key a fs (hole (at_root {m = m})) f n e = root_steps b k key a m n e
+frame_steps b k key a fs (hole (at_entry {loose = loose} {c = c} {w = w} {fs = gs} p h)) f n e =
+    entry_steps b k key a loose c w gs p h n e
+frame_steps b k key a fs (hole (at_key p h)) f n e = absurd f
+frame_steps b k key a fs (hole (at_asked {c = c} {fs = gs} p h)) f n e =
+    mapping_steps b k key a c _ gs asking p h n e
+frame_steps b k key a fs (hole (at_value {c = c} {w = w} {fs = gs} p h)) f n e =
+    mapping_steps b k key a c _ gs valued p h n e
+frame_steps b k key a fs (hole (at_item {fs = gs} h)) f n e =
+    flat_step b k key a fs (flow.item_steps b k key a gs h)
+    (item_flat b k key a.scope a.lexeme a.options gs h e)
+frame_steps b k key a fs (hole (at_curly {fs = gs} h)) f n e =
+    flat_step b k key a fs (flow.curly_steps b k key a gs h)
+    (curly_flat b k key a.scope a.lexeme a.options gs h e)
+frame_steps b k key a fs (hole (curly_key h)) f n e = absurd f
+frame_steps b k key a fs (hole (curly_asked {fs = gs} h)) f n e =
+    flat_step b k key a fs (flow.curly_asked_steps b k key a gs h)
+    (curly_asked_flat b k key a.scope a.lexeme a.options gs h e)
+frame_steps b k key a fs (hole (curly_value {w = w} {fs = gs} h)) f n e =
+    flat_step b k key a fs (flow.curly_value_steps w b k key a gs h)
+    (curly_value_flat b k key a.scope a.lexeme a.options w gs h e)
+frame_steps b k key a fs (hole (made_key h)) f n e = absurd f
+frame_steps b k key a fs (hole (made_value {w = w} {fs = gs} h)) f n e =
+    flat_step b k key a fs (flow.made_value_steps w b k key a gs h (both_false _ _ n f))
+    (made_value_flat b k key a.scope a.lexeme a.options w gs h e (both_false _ _ n f))
+frame_steps b k key a fs (hole (pair_asked {fs = gs} h)) f n e =
+    flat_step b k key a fs (flow.pair_asked_steps b k key a gs h n)
+    (pair_asked_flat b k key a.scope a.lexeme a.options gs h e n)
+frame_steps b k key a fs (hole (pair_value {w = w} {fs = gs} h)) f n e =
+    flat_step b k key a fs (flow.pair_value_steps w b k key a gs h n)
+    (pair_value_flat b k key a.scope a.lexeme a.options w gs h e n)
+frame_steps b k key a fs (behind_properties {p = p} {fs = gs} g h) f n e =
+    behind_properties_steps b k key a p gs g h f n e
+frame_steps b k key a fs (past_entry {loose = loose} {c = c} {fs = gs} p h) f n e =
+    past_steps b k key a loose c gs p n e
+frame_steps b k key a fs (key_done {c = c} {fs = gs} p h) f n e =
+    calm_step b k key a fs (done.key_done_steps c b k key a.scope a.lexeme a.options (beside_at a) gs h)
+    (block_key_calm b k key a.scope a.lexeme a.options c gs h e)
+frame_steps b k key a fs (ask_done {c = c} {fs = gs} p h) f n e =
+    mapping_steps b k key a c _ gs asked p h n e
+frame_steps b k key a fs (pair_done {c = c} {fs = gs} p h) f n e =
+    mapping_steps b k key a c _ gs paired p h n e
+frame_steps b k key a fs (item_done {fs = gs} h) f n e =
+    calm_step b k key a fs (done.item_done_steps b k key a.scope a.lexeme a.options (beside_at a) gs h)
+    (item_done_calm b k key a.scope a.lexeme a.options gs h e)
+frame_steps b k key a fs (curly_key_done {fs = gs} h) f n e =
+    calm_step b k key a fs (done.curly_key_steps b k key a.scope a.lexeme a.options (beside_at a) gs h)
+    (curly_key_done_calm b k key a.scope a.lexeme a.options gs h e)
+frame_steps b k key a fs (curly_ask_done {fs = gs} h) f n e =
+    calm_step b k key a fs (done.curly_asked_steps b k key a.scope a.lexeme a.options (beside_at a) gs h)
+    (curly_ask_done_calm b k key a.scope a.lexeme a.options gs h e)
+frame_steps b k key a fs (curly_solo {fs = gs} h) f n e =
+    calm_step b k key a fs (done.curly_solo_steps b k key a.scope a.lexeme a.options (beside_at a) gs h)
+    (curly_solo_calm b k key a.scope a.lexeme a.options gs h e)
+frame_steps b k key a fs (curly_done {fs = gs} h) f n e =
+    calm_step b k key a fs (done.curly_done_steps b k key a.scope a.lexeme a.options (beside_at a) gs h)
+    (curly_done_calm b k key a.scope a.lexeme a.options gs h e)
+frame_steps b k key a fs (made_key_done {fs = gs} h) f n e =
+    calm_step b k key a fs (done.made_key_steps b k key a.scope a.lexeme a.options (beside_at a) gs h)
+    (made_key_done_calm b k key a.scope a.lexeme a.options gs h e)
+frame_steps b k key a fs (made_done {fs = gs} h) f n e =
+    calm_step b k key a fs
+    (made_done_steps b k key a.scope a.lexeme a.options (beside_at a) gs h (both_false _ _ n f))
+    (made_done_calm b k key a.scope a.lexeme a.options gs h e (both_false _ _ n f))
+frame_steps b k key a fs (square_ask_done {fs = gs} h) f n e =
+    calm_step b k key a fs (square_asked_steps b k key a.scope a.lexeme a.options (beside_at a) gs h n)
+    (square_ask_done_calm b k key a.scope a.lexeme a.options gs h e n)
+frame_steps b k key a fs (square_done h) f n e = cc (n)

@@ -1,9 +1,8 @@
 -- Steps in a block mapping: behind `?`, its key, `:` and its value.
 use Rattle.granit_agreement.specs.Good.{Holes, at_key, at_asked, at_value, IsPositive}
-use Rattle.granit_agreement.specs.Stepping.{taken, LimitView, at_kind, knowing}
-use Rattle.granit_agreement.specs.Steps.{StepsLimited, On, TokenOn, PartsAgree}
-use Rattle.granit_agreement.specs.View.{state_of, give_all, stage_of}
-use Rattle.granit_language.specs.Seen.{terminal_kind, terminal_of, at_of}
+use Rattle.granit_agreement.specs.Stepping.{taken, LimitView, at_kind}
+use Rattle.granit_agreement.specs.View.{give_all, stage_of}
+use Rattle.granit_language.specs.Seen.{terminal_kind}
 use Rattle.granit_grammar.specs.EventMachine.{PairAt, Key, Asking, AskDone, Done, Value, OpenFrame, MappingFrame}
 use Rattle.granit_grammar.specs.EventMachine.{EventState, InFrames, Ending, ending, with_event, finish_frames}
 use Rattle.granit_grammar.specs.EventMachine.{nothing_frames, ended_by, GoesTo, after_events, if_gives, take_frames}
@@ -12,7 +11,6 @@ use Rattle.granit_grammar.specs.Guarded.{blocks_open, first_fault}
 use Rattle.granit_language.specs.Choice.{choose}
 use Rattle.granit_language.specs.GrammarFault.{UnexpectedEofBlockMapping, ExpectedBlockMappingKey, fault_of}
 use Rattle.granit_language.specs.Node.{NoProperties}
-use Rattle.granit_language.specs.Scope.{Scope}
 use Rattle.granit_language.specs.Telling.{one_less}
 use Rattle.granit_language.specs.Terminal.{Anchor, Tag, Part, PartKind, Alias, Property, Scalar, Open, Colon, Terminal}
 use Rattle.granit_language.specs.Terminal.{TerminalKind, At, terminal, stands_left, stands_in, entry_in, bare_in}
@@ -33,11 +31,11 @@ use Rattle.std.proofs.Common.{◌≡◌, ℕ, suc, Bool, true, false, ◌||◌, 
 use Rattle.std.proofs.Common.{subst, Option, Some, None, Result, Err}
 use Rattle.std.specs.Prelude.{nat_le, if◌then◌else◌}
 use Rattle.granit_base.specs.Place.{Mark}
-use Rattle.granit_error.specs.OptionsData.{OptionsData}
 use Rattle.granit_lexemes.specs.Outcome.{Fault}
-use Rattle.granit_lexemes.specs.PlainEvent.{PlainEvent}
 use Rattle.granit_lexemes.specs.Lexeme as lexemes
 use Rattle.granit_machine.specs.Frames as machine
+use Rattle.granit_agreement.proofs.Arrivals.{Arrival, arriving, arriving_token, beside_at, parser_at, PartsAgree}
+use Rattle.granit_agreement.proofs.Arrivals.{StepsLimited}
 use Rattle.granit_agreement.proofs.BlockNodes.{part_limited}
 use Rattle.granit_agreement.proofs.Dashes.{DashOr, a_dash, another, dash_or}
 use Rattle.granit_agreement.proofs.NodeTests.{joined_none, Tested, NodeOf, node_tested, dash_tested}
@@ -48,9 +46,6 @@ use Rattle.granit_agreement.proofs.SequencePlaces.{stays_taken, begins_right}
 use Rattle.granit_agreement.proofs.Sorts.{stands_same, entry_same}
 use Rattle.granit_agreement.proofs.Views.{count_flat, events_before}
 use Rattle.granit_agreement.proofs.Wants.{asked_hole, value_hole, key_entry}
-
-abbrev X : Bool → lexemes.LexemeKind → Option KeyStart → Scope → lexemes.Lexeme → Terminal
-X b k key s l = terminal_of b s (at_kind l k key)
 
 -- where an entry may follow
 pub data Between : PairAt → Type 0 where
@@ -77,8 +72,7 @@ AskedEnds x c fs on left colon =
 
 asking_ends :
     (x : Terminal) (c : ℕ) (fs : List OpenFrame) (on y : Ending) (left entry colon : Bool) → left ≡ false →
-    entry ≡ true →
-    colon ≡ false →
+    entry ≡ true → colon ≡ false →
     taken (choose (left || entry) (with_event (null x.at.start (Some c)) (AskedEnds x c fs on left colon)) y) x
     ≡ after_events (Before Asking c x.at.start) (take_frames (In c Done fs) x.kind x.at)
 asking_ends x c fs on y false true false e f g = refl
@@ -215,249 +209,248 @@ LastOf AskDone x last = x
 LastOf (Value w) x last = w
 LastOf at x last = last
 
-abbrev P : OptionsData → Scope → Mark → List PlainEvent → ℕ → PairAt → List OpenFrame → ParserState
-P o s last given c at fs = state_of o (In c at fs) (knowing o s last given)
+-- behind what ends before the next entry
+abbrev behind_pair : PairAt → ℕ → Arrival → Arrival
+behind_pair at c a = record a {
+  last = LastOf at a.lexeme.start a.last;
+  given = give_all a.options (Before at c a.lexeme.start) a.given;
+}
 
 owed_key :
-    (o : OptionsData) (s : Scope) (x last : Mark) (given : List PlainEvent) (c : ℕ) (at : PairAt) (fs : List OpenFrame)
-    →
-    Between at →
-    mapping_at (one_less c) machine.AtKey (owed x (P o s last given c at fs))
-    ≡ P o s (LastOf at x last) (give_all o (Before at c x) given) c Key fs
-owed_key o s x last given c at fs asking = refl
-owed_key o s x last given c at fs asked = refl
-owed_key o s x last given c at fs (valued {w = w}) =
+    (a : Arrival) (c : ℕ) (at : PairAt) (fs : List OpenFrame) → Between at →
+    mapping_at (one_less c) machine.AtKey (owed a.lexeme.start (parser_at (MappingFrame c at ∷ fs) a))
+    ≡ parser_at (MappingFrame c Key ∷ fs) (behind_pair at c a)
+owed_key a c at fs asking = refl
+owed_key a c at fs asked = refl
+owed_key a c at fs (valued {w = w}) =
     ap (mapping_at (one_less c) machine.AtKey)
-    (flushed o w o.max_buffered_comment_events (put (null_at w) (P o s last given c (Value w) fs)))
-owed_key o s x last given c at fs paired = refl
+    (flushed a.options w a.options.max_buffered_comment_events
+    (put (null_at w) (parser_at (MappingFrame c (Value w) ∷ fs) a)))
+owed_key a c at fs paired = refl
 
 owed_question :
-    (o : OptionsData) (s : Scope) (x last : Mark) (given : List PlainEvent) (c : ℕ) (at : PairAt) (fs : List OpenFrame)
-    →
-    Between at →
-    mapping_at (one_less c) machine.AtQuestion (owed x (P o s last given c at fs))
-    ≡ P o s (LastOf at x last) (give_all o (Before at c x) given) c Asking fs
-owed_question o s x last given c at fs asking = refl
-owed_question o s x last given c at fs asked = refl
-owed_question o s x last given c at fs (valued {w = w}) =
+    (a : Arrival) (c : ℕ) (at : PairAt) (fs : List OpenFrame) → Between at →
+    mapping_at (one_less c) machine.AtQuestion (owed a.lexeme.start (parser_at (MappingFrame c at ∷ fs) a))
+    ≡ parser_at (MappingFrame c Asking ∷ fs) (behind_pair at c a)
+owed_question a c at fs asking = refl
+owed_question a c at fs asked = refl
+owed_question a c at fs (valued {w = w}) =
     ap (mapping_at (one_less c) machine.AtQuestion)
-    (flushed o w o.max_buffered_comment_events (put (null_at w) (P o s last given c (Value w) fs)))
-owed_question o s x last given c at fs paired = refl
+    (flushed a.options w a.options.max_buffered_comment_events
+    (put (null_at w) (parser_at (MappingFrame c (Value w) ∷ fs) a)))
+owed_question a c at fs paired = refl
 
 abbrev ColonLast : PairAt → Mark → Mark → Mark
 ColonLast AskDone x last = last
 ColonLast at x last = x
 
 owed_colon :
-    (b : Bool) (s : Scope) (l : lexemes.Lexeme) (o : OptionsData) (last : Mark) (given : List PlainEvent) (c : ℕ)
-    (at : PairAt) (fs : List OpenFrame) → Between at →
-    bare_colon_in_mapping o (TokenOn lexemes.Colon b l) (one_less c) (stage_of at) (P o s last given c at fs)
-    ≡ P o s (ColonLast at l.start last) (give_all o (ColonBefore at c l.start) given) c (Value l.start) fs
-owed_colon b s l o last given c at fs asking = refl
-owed_colon b s l o last given c at fs asked = refl
-owed_colon b s l o last given c at fs (valued {w = w}) =
-    ap (λ q. mapping_colon o (TokenOn lexemes.Colon b l) (one_less c) (put (null_at l.start) q))
-    (flushed o w o.max_buffered_comment_events (put (null_at w) (P o s last given c (Value w) fs)))
-owed_colon b s l o last given c at fs paired = refl
+    (b : Bool) (a : Arrival) (c : ℕ) (at : PairAt) (fs : List OpenFrame) → Between at →
+    bare_colon_in_mapping a.options (arriving_token b lexemes.Colon None a) (one_less c) (stage_of at)
+    (parser_at (MappingFrame c at ∷ fs) a)
+    ≡ parser_at (MappingFrame c (Value a.lexeme.start) ∷ fs)
+    (record a {
+      last = ColonLast at a.lexeme.start a.last;
+      given = give_all a.options (ColonBefore at c a.lexeme.start) a.given;
+    })
+owed_colon b a c at fs asking = refl
+owed_colon b a c at fs asked = refl
+owed_colon b a c at fs (valued {w = w}) =
+    ap (λ q. mapping_colon a.options (arriving_token b lexemes.Colon None a) (one_less c)
+    (put (null_at a.lexeme.start) q))
+    (flushed a.options w a.options.max_buffered_comment_events
+    (put (null_at w) (parser_at (MappingFrame c (Value w) ∷ fs) a)))
+owed_colon b a c at fs paired = refl
 
 -- ---- an entry follows
 
 abbrev Rest :
-    Bool → lexemes.LexemeKind → Option KeyStart → Scope → lexemes.Lexeme → OptionsData → Mark → List PlainEvent → ℕ →
-    PairAt → List OpenFrame → Result ParserState Fault
-Rest b k key s l o last given c at fs =
-    if not (takes_node (stage_of at)) then Err (fault_of ExpectedBlockMappingKey (X b k key s l))
+    Bool → lexemes.LexemeKind → Option KeyStart → Arrival → ℕ → PairAt → List OpenFrame → Result ParserState Fault
+Rest b k key a c at fs =
+    if not (takes_node (stage_of at)) then Err (fault_of ExpectedBlockMappingKey (arriving b k key a))
     else Tested
-    ((is_dash_token (token_sort b key k) && is_in_column (token_column (token_of b (at_kind l k key))) (one_less c))
+    ((is_dash_token (token_sort b key k) && is_in_column (token_column (arriving_token b k key a)) (one_less c))
     ||
-    (begins_node (token_sort b key k)
-    && is_right_of (token_column (token_of b (at_kind l k key))) (Some (one_less c))))
-    (NodeOf b k key s l o last given NoProperties (MappingFrame c at ∷ fs)) UnexpectedEofBlockMapping (X b k key s l)
+    (begins_node (token_sort b key k) && is_right_of (token_column (arriving_token b k key a)) (Some (one_less c))))
+    (NodeOf b k key a NoProperties (MappingFrame c at ∷ fs)) UnexpectedEofBlockMapping (arriving b k key a)
 
 abbrev NextPair :
-    Bool → lexemes.LexemeKind → Option KeyStart → Scope → lexemes.Lexeme → OptionsData → Mark → List PlainEvent → ℕ →
-    PairAt → List OpenFrame → Result ParserState Fault
-NextPair b k key s l o last given c at fs =
-    next_pair o (token_of b (at_kind l k key)) (one_less c) (stage_of at) (token_sort b key k)
-    (P o s last given c at fs)
+    Bool → lexemes.LexemeKind → Option KeyStart → Arrival → ℕ → PairAt → List OpenFrame → Result ParserState Fault
+NextPair b k key a c at fs =
+    next_pair a.options (arriving_token b k key a) (one_less c) (stage_of at) (token_sort b key k)
+    (parser_at (MappingFrame c at ∷ fs) a)
 
 -- the parser's step where an entry may follow
 abbrev MappingToken :
-    Bool → lexemes.LexemeKind → Option KeyStart → Scope → lexemes.Lexeme → OptionsData → Mark → List PlainEvent → ℕ →
-    PairAt → List OpenFrame → Result ParserState Fault
-MappingToken b k key s l o last given c at fs = take_token o (token_of b (at_kind l k key)) (P o s last given c at fs)
+    Bool → lexemes.LexemeKind → Option KeyStart → Arrival → ℕ → PairAt → List OpenFrame → Result ParserState Fault
+MappingToken b k key a c at fs = take_token a.options (arriving_token b k key a) (parser_at (MappingFrame c at ∷ fs) a)
 
 indicator_is :
-    (b : Bool) (k : lexemes.LexemeKind) (key : Option KeyStart) (s : Scope) (l : lexemes.Lexeme) (o : OptionsData)
-    (last : Mark) (given : List PlainEvent) (c : ℕ) (at : PairAt) (fs : List OpenFrame) → Between at → IsPositive c →
-    MappingToken b k key s l o last given c at fs
-    ≡ (if entry_in (X b k key s l) c then NextPair b k key s l o last given c at fs
-    else Rest b k key s l o last given c at fs)
+    (b : Bool) (k : lexemes.LexemeKind) (key : Option KeyStart) (a : Arrival) (c : ℕ) (at : PairAt)
+    (fs : List OpenFrame) → Between at → IsPositive c →
+    MappingToken b k key a c at fs
+    ≡ (if entry_in (arriving b k key a) c then NextPair b k key a c at fs
+    else Rest b k key a c at fs)
 unfolding behind_indicator
-indicator_is b k key s l o last given c at fs asking p =
-    ap (λ e. if e then NextPair b k key s l o last given c at fs else Rest b k key s l o last given c at fs)
-    (entry_same b s (at_kind l k key) c p)
-indicator_is b k key s l o last given c at fs asked p =
-    ap (λ e. if e then NextPair b k key s l o last given c at fs else Rest b k key s l o last given c at fs)
-    (entry_same b s (at_kind l k key) c p)
-indicator_is b k key s l o last given c at fs valued p =
-    ap (λ e. if e then NextPair b k key s l o last given c at fs else Rest b k key s l o last given c at fs)
-    (entry_same b s (at_kind l k key) c p)
-indicator_is b k key s l o last given c at fs paired p =
-    ap (λ e. if e then NextPair b k key s l o last given c at fs else Rest b k key s l o last given c at fs)
-    (entry_same b s (at_kind l k key) c p)
+indicator_is b k key a c at fs asking p =
+    ap (λ e. if e then NextPair b k key a c at fs else Rest b k key a c at fs)
+    (entry_same b a.scope (at_kind a.lexeme k key) c p)
+indicator_is b k key a c at fs asked p =
+    ap (λ e. if e then NextPair b k key a c at fs else Rest b k key a c at fs)
+    (entry_same b a.scope (at_kind a.lexeme k key) c p)
+indicator_is b k key a c at fs valued p =
+    ap (λ e. if e then NextPair b k key a c at fs else Rest b k key a c at fs)
+    (entry_same b a.scope (at_kind a.lexeme k key) c p)
+indicator_is b k key a c at fs paired p =
+    ap (λ e. if e then NextPair b k key a c at fs else Rest b k key a c at fs)
+    (entry_same b a.scope (at_kind a.lexeme k key) c p)
 
-abbrev EntryView :
-    Bool → lexemes.LexemeKind → Option KeyStart → Scope → lexemes.Lexeme → OptionsData → Mark → List PlainEvent → ℕ →
-    PairAt → List OpenFrame → Type 0
-EntryView b k key s l o last given c at fs =
-    LimitView o (X b k key s l) (knowing o s last given) (NextPair b k key s l o last given c at fs)
-    (taken (ended_by (X b k key s l) (In c at fs)) (X b k key s l))
+abbrev EntryView : Bool → lexemes.LexemeKind → Option KeyStart → Arrival → ℕ → PairAt → List OpenFrame → Type 0
+EntryView b k key a c at fs =
+    LimitView a.options (arriving b k key a) (beside_at a) (NextPair b k key a c at fs)
+    (taken (ended_by (arriving b k key a) (In c at fs)) (arriving b k key a))
 
 -- a simple key's first lexeme
 key_follows :
-    (m : PartKind) (k : lexemes.LexemeKind) (s : Scope) (l : lexemes.Lexeme) (o : OptionsData) (last : Mark)
-    (given : List PlainEvent) (c : ℕ) (at : PairAt) (fs : List OpenFrame) → Between at → IsPositive c → Holes fs →
-    terminal_kind k None ≡ Part m → stands_left (On k true s l) c ≡ false → entry_in (On k true s l) c ≡ true →
-    nat_le (blocks_open (MappingFrame c at ∷ fs)) o.block_nesting_limit ≡ true →
-    PartsAgree true m k s l o (LastOf at l.start last) (give_all o (Before at c l.start) given) NoProperties
+    (m : PartKind) (k : lexemes.LexemeKind) (a : Arrival) (c : ℕ) (at : PairAt) (fs : List OpenFrame) →
+    Between at → IsPositive c → Holes fs →
+    terminal_kind k None ≡ Part m → stands_left (arriving true k None a) c ≡ false →
+    entry_in (arriving true k None a) c ≡ true →
+    nat_le (blocks_open (MappingFrame c at ∷ fs)) a.options.block_nesting_limit ≡ true →
+    PartsAgree true m k (behind_pair at c a) NoProperties
     (MappingFrame c Key ∷ fs) ExpectedBlockMappingKey →
-    LimitView o (On k true s l) (knowing o s last given)
-    (bare o (TokenOn k true l) (mapping_at (one_less c) machine.AtKey (owed l.start (P o s last given c at fs))))
-    (after_events (Before at c l.start)
-    (part_frames ExpectedBlockMappingKey (MappingFrame c Key ∷ fs) NoProperties m
-    (at_of true s (at_kind l k None))))
-key_follows m k s l o last given c at fs w p h g f e q v =
+    LimitView a.options (arriving true k None a) (beside_at a)
+    (bare a.options (arriving_token true k None a)
+    (mapping_at (one_less c) machine.AtKey (owed a.lexeme.start (parser_at (MappingFrame c at ∷ fs) a))))
+    (after_events (Before at c a.lexeme.start)
+    (part_frames ExpectedBlockMappingKey (MappingFrame c Key ∷ fs) NoProperties m (arriving true k None a).at))
+key_follows m k a c at fs w p h g f e q v =
     subst
     (λ q.
-    LimitView o (On k true s l) (knowing o s last given) (bare o (TokenOn k true l) q)
-    (after_events (Before at c l.start)
-    (part_frames ExpectedBlockMappingKey (MappingFrame c Key ∷ fs) NoProperties m
-    (at_of true s (at_kind l k None)))))
-    (sym (owed_key o s l.start last given c at fs w))
-    (events_before o (On k true s l) s (LastOf at l.start last) last given (Before at c l.start)
-    (bare o (TokenOn k true l) (P o s (LastOf at l.start last) (give_all o (Before at c l.start) given) c Key fs))
-    (part_frames ExpectedBlockMappingKey (MappingFrame c Key ∷ fs) NoProperties m
-    (at_of true s (at_kind l k None)))
-    (part_limited true m k s l o (LastOf at l.start last) (give_all o (Before at c l.start) given) NoProperties
+    LimitView a.options (arriving true k None a) (beside_at a) (bare a.options (arriving_token true k None a) q)
+    (after_events (Before at c a.lexeme.start)
+    (part_frames ExpectedBlockMappingKey (MappingFrame c Key ∷ fs) NoProperties m (arriving true k None a).at)))
+    (sym (owed_key a c at fs w))
+    (events_before a.options (arriving true k None a) a.scope (LastOf at a.lexeme.start a.last) a.last a.given
+    (Before at c a.lexeme.start)
+    (bare a.options (arriving_token true k None a) (parser_at (MappingFrame c Key ∷ fs) (behind_pair at c a)))
+    (part_frames ExpectedBlockMappingKey (MappingFrame c Key ∷ fs) NoProperties m (arriving true k None a).at)
+    (part_limited true m k (behind_pair at c a) NoProperties
     (MappingFrame c Key ∷ fs) ExpectedBlockMappingKey (at_key p h) q v))
 
 entry_given :
-    (b : Bool) (k : lexemes.LexemeKind) (key : Option KeyStart) (s : Scope) (l : lexemes.Lexeme) (o : OptionsData)
-    (last : Mark) (given : List PlainEvent) (c : ℕ) (at : PairAt) (fs : List OpenFrame) → Between at → IsPositive c →
-    Holes fs → stands_left (X b k key s l) c ≡ false → entry_in (X b k key s l) c ≡ true →
-    nat_le (blocks_open (MappingFrame c at ∷ fs)) o.block_nesting_limit ≡ true →
-    EntryView b k key s l o last given c at fs
-entry_given b (lexemes.Directive directive) key s l o last given c at fs w p h f e q = cc (e)
-entry_given b lexemes.DocumentStart key s l o last given c at fs w p h f e q = cc (e)
-entry_given b lexemes.DocumentEnd key s l o last given c at fs w p h f e q = cc (e)
-entry_given b lexemes.StreamEnd key s l o last given c at fs w p h f e q = cc (e)
-entry_given b lexemes.Comma key s l o last given c at fs w p h f e q = cc (e)
-entry_given b (lexemes.Close bracket) key s l o last given c at fs w p h f e q = cc (e)
-entry_given b lexemes.Dash key s l o last given c at fs w p h f e q = cc (e)
-entry_given b lexemes.Colon (Some n) s l o last given c at fs w p h f e q = cc (e)
-entry_given b lexemes.Colon None s l o last given c at fs w p h f e q =
+    (b : Bool) (k : lexemes.LexemeKind) (key : Option KeyStart) (a : Arrival) (c : ℕ) (at : PairAt)
+    (fs : List OpenFrame) → Between at → IsPositive c →
+    Holes fs → stands_left (arriving b k key a) c ≡ false → entry_in (arriving b k key a) c ≡ true →
+    nat_le (blocks_open (MappingFrame c at ∷ fs)) a.options.block_nesting_limit ≡ true →
+    EntryView b k key a c at fs
+entry_given b (lexemes.Directive directive) key a c at fs w p h f e q = cc (e)
+entry_given b lexemes.DocumentStart key a c at fs w p h f e q = cc (e)
+entry_given b lexemes.DocumentEnd key a c at fs w p h f e q = cc (e)
+entry_given b lexemes.StreamEnd key a c at fs w p h f e q = cc (e)
+entry_given b lexemes.Comma key a c at fs w p h f e q = cc (e)
+entry_given b (lexemes.Close bracket) key a c at fs w p h f e q = cc (e)
+entry_given b lexemes.Dash key a c at fs w p h f e q = cc (e)
+entry_given b lexemes.Colon (Some n) a c at fs w p h f e q = cc (e)
+entry_given b lexemes.Colon None a c at fs w p h f e q =
     subst
-    (LimitView o (X b lexemes.Colon None s l) (knowing o s last given)
-    (NextPair b lexemes.Colon None s l o last given c at fs))
-    (sym (colon_follows (at_of b s (at_kind l lexemes.Colon None)) c at fs w f e)) (
-      (ColonLast at l.start last, owed_colon b s l o last given c at fs w),
+    (LimitView a.options (arriving b lexemes.Colon None a) (beside_at a) (NextPair b lexemes.Colon None a c at fs))
+    (sym (colon_follows (arriving b lexemes.Colon None a).at c at fs w f e)) (
+      (ColonLast at a.lexeme.start a.last, owed_colon b a c at fs w),
       ap (λ f. first_fault f None)
-          (count_flat o.block_nesting_limit (suc (blocks_open fs)) (In c (Value l.start) fs) refl q),
+          (count_flat a.options.block_nesting_limit (suc (blocks_open fs)) (In c (Value a.lexeme.start) fs) refl q),
     )
-entry_given b lexemes.Question key s l o last given c at fs w p h f e q =
+entry_given b lexemes.Question key a c at fs w p h f e q =
     subst
-    (LimitView o (X b lexemes.Question key s l) (knowing o s last given)
-    (NextPair b lexemes.Question key s l o last given c at fs))
-    (sym (entry_follows (X b lexemes.Question key s l) c at fs w f e refl))
-    (events_before o (X b lexemes.Question key s l) s (LastOf at l.start last) last given (Before at c l.start)
-    (NextPair b lexemes.Question key s l o last given c at fs) (GoesTo (In c Asking fs) []) (
-      (LastOf at l.start last, owed_question o s l.start last given c at fs w),
+    (LimitView a.options (arriving b lexemes.Question key a) (beside_at a)
+    (NextPair b lexemes.Question key a c at fs))
+    (sym (entry_follows (arriving b lexemes.Question key a) c at fs w f e refl))
+    (events_before a.options (arriving b lexemes.Question key a) a.scope (LastOf at a.lexeme.start a.last) a.last
+    a.given (Before at c a.lexeme.start)
+    (NextPair b lexemes.Question key a c at fs) (GoesTo (In c Asking fs) []) (
+      (LastOf at a.lexeme.start a.last, owed_question a c at fs w),
       ap (λ f. first_fault f None)
-          (count_flat o.block_nesting_limit (suc (blocks_open fs)) (In c Asking fs) refl q),
+          (count_flat a.options.block_nesting_limit (suc (blocks_open fs)) (In c Asking fs) refl q),
     ))
-entry_given false (lexemes.Scalar style text) key s l o last given c at fs w p h f e q = cc (e)
-entry_given true (lexemes.Scalar style text) key s l o last given c at fs w p h f e q =
+entry_given false (lexemes.Scalar style text) key a c at fs w p h f e q = cc (e)
+entry_given true (lexemes.Scalar style text) key a c at fs w p h f e q =
     subst
-    (LimitView o (X true (lexemes.Scalar style text) key s l) (knowing o s last given)
-    (NextPair true (lexemes.Scalar style text) key s l o last given c at fs))
+    (LimitView a.options (arriving true (lexemes.Scalar style text) key a) (beside_at a)
+    (NextPair true (lexemes.Scalar style text) key a c at fs))
     (sym
-    (entry_follows (X true (lexemes.Scalar style text) key s l) c at fs w f e refl
-    ∙ ap (after_events (Before at c l.start))
+    (entry_follows (arriving true (lexemes.Scalar style text) key a) c at fs w f e refl
+    ∙ ap (after_events (Before at c a.lexeme.start))
     (key_entry ExpectedBlockMappingKey c fs (Scalar style text)
-    (at_of true s (at_kind l (lexemes.Scalar style text) key)))))
-    (key_follows (Scalar style text) (lexemes.Scalar style text) s l o last given c at fs w p h refl f e q
-    (scalar_parts true style text s l o (LastOf at l.start last) (give_all o (Before at c l.start) given)
+    (arriving true (lexemes.Scalar style text) key a).at)))
+    (key_follows (Scalar style text) (lexemes.Scalar style text) a c at fs w p h refl f e q
+    (scalar_parts true style text (behind_pair at c a)
     NoProperties (MappingFrame c Key ∷ fs)
     ExpectedBlockMappingKey (at_key p h)))
-entry_given false (lexemes.Open Square) key s l o last given c at fs w p h f e q = cc (e)
-entry_given true (lexemes.Open Square) key s l o last given c at fs w p h f e q =
+entry_given false (lexemes.Open Square) key a c at fs w p h f e q = cc (e)
+entry_given true (lexemes.Open Square) key a c at fs w p h f e q =
     subst
-    (LimitView o (X true (lexemes.Open Square) key s l) (knowing o s last given)
-    (NextPair true (lexemes.Open Square) key s l o last given c at fs))
+    (LimitView a.options (arriving true (lexemes.Open Square) key a) (beside_at a)
+    (NextPair true (lexemes.Open Square) key a c at fs))
     (sym
-    (entry_follows (X true (lexemes.Open Square) key s l) c at fs w f e refl
-    ∙ ap (after_events (Before at c l.start))
-    (key_entry ExpectedBlockMappingKey c fs (Open Square)
-    (at_of true s (at_kind l (lexemes.Open Square) key)))))
-    (key_follows (Open Square) (lexemes.Open Square) s l o last given c at fs w p h refl f e q
-    (square_parts true s l o (LastOf at l.start last) (give_all o (Before at c l.start) given) NoProperties
+    (entry_follows (arriving true (lexemes.Open Square) key a) c at fs w f e refl
+    ∙ ap (after_events (Before at c a.lexeme.start))
+    (key_entry ExpectedBlockMappingKey c fs (Open Square) (arriving true (lexemes.Open Square) key a).at)))
+    (key_follows (Open Square) (lexemes.Open Square) a c at fs w p h refl f e q
+    (square_parts true (behind_pair at c a) NoProperties
     (MappingFrame c Key ∷ fs)
     ExpectedBlockMappingKey (at_key p h)))
-entry_given false (lexemes.Open Curly) key s l o last given c at fs w p h f e q = cc (e)
-entry_given true (lexemes.Open Curly) key s l o last given c at fs w p h f e q =
+entry_given false (lexemes.Open Curly) key a c at fs w p h f e q = cc (e)
+entry_given true (lexemes.Open Curly) key a c at fs w p h f e q =
     subst
-    (LimitView o (X true (lexemes.Open Curly) key s l) (knowing o s last given)
-    (NextPair true (lexemes.Open Curly) key s l o last given c at fs))
+    (LimitView a.options (arriving true (lexemes.Open Curly) key a) (beside_at a)
+    (NextPair true (lexemes.Open Curly) key a c at fs))
     (sym
-    (entry_follows (X true (lexemes.Open Curly) key s l) c at fs w f e refl
-    ∙ ap (after_events (Before at c l.start))
-    (key_entry ExpectedBlockMappingKey c fs (Open Curly)
-    (at_of true s (at_kind l (lexemes.Open Curly) key)))))
-    (key_follows (Open Curly) (lexemes.Open Curly) s l o last given c at fs w p h refl f e q
-    (curly_parts true s l o (LastOf at l.start last) (give_all o (Before at c l.start) given) NoProperties
+    (entry_follows (arriving true (lexemes.Open Curly) key a) c at fs w f e refl
+    ∙ ap (after_events (Before at c a.lexeme.start))
+    (key_entry ExpectedBlockMappingKey c fs (Open Curly) (arriving true (lexemes.Open Curly) key a).at)))
+    (key_follows (Open Curly) (lexemes.Open Curly) a c at fs w p h refl f e q
+    (curly_parts true (behind_pair at c a) NoProperties
     (MappingFrame c Key ∷ fs)
     ExpectedBlockMappingKey (at_key p h)))
-entry_given false (lexemes.Anchor name) key s l o last given c at fs w p h f e q = cc (e)
-entry_given true (lexemes.Anchor name) key s l o last given c at fs w p h f e q =
+entry_given false (lexemes.Anchor name) key a c at fs w p h f e q = cc (e)
+entry_given true (lexemes.Anchor name) key a c at fs w p h f e q =
     subst
-    (LimitView o (X true (lexemes.Anchor name) key s l) (knowing o s last given)
-    (NextPair true (lexemes.Anchor name) key s l o last given c at fs))
+    (LimitView a.options (arriving true (lexemes.Anchor name) key a) (beside_at a)
+    (NextPair true (lexemes.Anchor name) key a c at fs))
     (sym
-    (entry_follows (X true (lexemes.Anchor name) key s l) c at fs w f e refl
-    ∙ ap (after_events (Before at c l.start))
+    (entry_follows (arriving true (lexemes.Anchor name) key a) c at fs w f e refl
+    ∙ ap (after_events (Before at c a.lexeme.start))
     (key_entry ExpectedBlockMappingKey c fs (Property (Anchor name))
-    (at_of true s (at_kind l (lexemes.Anchor name) key)))))
-    (key_follows (Property (Anchor name)) (lexemes.Anchor name) s l o last given c at fs w p h refl f e q
-    (anchor_parts true name s l o (LastOf at l.start last) (give_all o (Before at c l.start) given) NoProperties
+    (arriving true (lexemes.Anchor name) key a).at)))
+    (key_follows (Property (Anchor name)) (lexemes.Anchor name) a c at fs w p h refl f e q
+    (anchor_parts true name (behind_pair at c a) NoProperties
     (MappingFrame c Key ∷ fs)
     ExpectedBlockMappingKey (at_key p h) refl))
-entry_given false (lexemes.Tag handle suffix) key s l o last given c at fs w p h f e q = cc (e)
-entry_given true (lexemes.Tag handle suffix) key s l o last given c at fs w p h f e q =
+entry_given false (lexemes.Tag handle suffix) key a c at fs w p h f e q = cc (e)
+entry_given true (lexemes.Tag handle suffix) key a c at fs w p h f e q =
     subst
-    (LimitView o (X true (lexemes.Tag handle suffix) key s l) (knowing o s last given)
-    (NextPair true (lexemes.Tag handle suffix) key s l o last given c at fs))
+    (LimitView a.options (arriving true (lexemes.Tag handle suffix) key a) (beside_at a)
+    (NextPair true (lexemes.Tag handle suffix) key a c at fs))
     (sym
-    (entry_follows (X true (lexemes.Tag handle suffix) key s l) c at fs w f e refl
-    ∙ ap (after_events (Before at c l.start))
+    (entry_follows (arriving true (lexemes.Tag handle suffix) key a) c at fs w f e refl
+    ∙ ap (after_events (Before at c a.lexeme.start))
     (key_entry ExpectedBlockMappingKey c fs (Property (Tag handle suffix))
-    (at_of true s (at_kind l (lexemes.Tag handle suffix) key)))))
-    (key_follows (Property (Tag handle suffix)) (lexemes.Tag handle suffix) s l o last given c at fs w p h refl f e q
-    (tag_parts true handle suffix s l o (LastOf at l.start last) (give_all o (Before at c l.start) given)
+    (arriving true (lexemes.Tag handle suffix) key a).at)))
+    (key_follows (Property (Tag handle suffix)) (lexemes.Tag handle suffix) a c at fs w p h refl f e q
+    (tag_parts true handle suffix (behind_pair at c a)
     NoProperties (MappingFrame c Key ∷ fs)
     ExpectedBlockMappingKey (at_key p h) refl))
-entry_given false (lexemes.Alias name) key s l o last given c at fs w p h f e q = cc (e)
-entry_given true (lexemes.Alias name) key s l o last given c at fs w p h f e q =
+entry_given false (lexemes.Alias name) key a c at fs w p h f e q = cc (e)
+entry_given true (lexemes.Alias name) key a c at fs w p h f e q =
     subst
-    (LimitView o (X true (lexemes.Alias name) key s l) (knowing o s last given)
-    (NextPair true (lexemes.Alias name) key s l o last given c at fs))
+    (LimitView a.options (arriving true (lexemes.Alias name) key a) (beside_at a)
+    (NextPair true (lexemes.Alias name) key a c at fs))
     (sym
-    (entry_follows (X true (lexemes.Alias name) key s l) c at fs w f e refl
-    ∙ ap (after_events (Before at c l.start))
-    (key_entry ExpectedBlockMappingKey c fs (Alias name)
-    (at_of true s (at_kind l (lexemes.Alias name) key)))))
-    (key_follows (Alias name) (lexemes.Alias name) s l o last given c at fs w p h refl f e q
-    (alias_parts true name s l o (LastOf at l.start last) (give_all o (Before at c l.start) given)
+    (entry_follows (arriving true (lexemes.Alias name) key a) c at fs w f e refl
+    ∙ ap (after_events (Before at c a.lexeme.start))
+    (key_entry ExpectedBlockMappingKey c fs (Alias name) (arriving true (lexemes.Alias name) key a).at)))
+    (key_follows (Alias name) (lexemes.Alias name) a c at fs w p h refl f e q
+    (alias_parts true name (behind_pair at c a)
     (MappingFrame c Key ∷ fs)
     ExpectedBlockMappingKey (at_key p h)))
 
@@ -468,22 +461,18 @@ bare_no :
 bare_no (Colon None) b t e = e
 bare_no k b t e = refl
 
-abbrev RestView :
-    Bool → lexemes.LexemeKind → Option KeyStart → Scope → lexemes.Lexeme → OptionsData → Mark → List PlainEvent → ℕ →
-    PairAt → List OpenFrame → Type 0
-RestView b k key s l o last given c at fs =
-    LimitView o (X b k key s l) (knowing o s last given) (Rest b k key s l o last given c at fs)
-    (taken (ended_by (X b k key s l) (In c at fs)) (X b k key s l))
+abbrev RestView : Bool → lexemes.LexemeKind → Option KeyStart → Arrival → ℕ → PairAt → List OpenFrame → Type 0
+RestView b k key a c at fs =
+    LimitView a.options (arriving b k key a) (beside_at a) (Rest b k key a c at fs)
+    (taken (ended_by (arriving b k key a) (In c at fs)) (arriving b k key a))
 
 -- the test of a node, and what is wanted
-abbrev WantedView :
-    Bool → lexemes.LexemeKind → Option KeyStart → Scope → lexemes.Lexeme → OptionsData → Mark → List PlainEvent → ℕ →
-    PairAt → List OpenFrame → Bool → Type 0
-WantedView b k key s l o last given c at fs r =
-    LimitView o (X b k key s l) (knowing o s last given)
-    (Tested r (NodeOf b k key s l o last given NoProperties (MappingFrame c at ∷ fs)) UnexpectedEofBlockMapping
-    (X b k key s l))
-    (want_frames (MappingFrame c at ∷ fs) NoProperties (terminal_kind k key) (at_of b s (at_kind l k key)))
+abbrev WantedView : Bool → lexemes.LexemeKind → Option KeyStart → Arrival → ℕ → PairAt → List OpenFrame → Bool → Type 0
+WantedView b k key a c at fs r =
+    LimitView a.options (arriving b k key a) (beside_at a)
+    (Tested r (NodeOf b k key a NoProperties (MappingFrame c at ∷ fs)) UnexpectedEofBlockMapping
+    (arriving b k key a))
+    (want_frames (MappingFrame c at ∷ fs) NoProperties (terminal_kind k key) (arriving b k key a).at)
 
 abbrev NodeTest : Bool → lexemes.LexemeKind → Option KeyStart → lexemes.Lexeme → ℕ → Bool
 NodeTest b k key l c =
@@ -493,114 +482,113 @@ NodeTest b k key l c =
     && is_right_of (token_column (token_of b (at_kind l k key))) (Some (one_less c)))
 
 node_asked :
-    (b : Bool) (k : lexemes.LexemeKind) (key : Option KeyStart) (s : Scope) (l : lexemes.Lexeme) (o : OptionsData)
-    (last : Mark) (given : List PlainEvent) (c : ℕ) (fs : List OpenFrame) → DashOr b key k → IsPositive c → Holes fs →
-    nat_le (blocks_open (MappingFrame c Asking ∷ fs)) o.block_nesting_limit ≡ true →
-    WantedView b k key s l o last given c Asking fs (NodeTest b k key l c)
-node_asked b k key s l o last given c fs (another n) p h e =
-    subst (WantedView b k key s l o last given c Asking fs)
+    (b : Bool) (k : lexemes.LexemeKind) (key : Option KeyStart) (a : Arrival) (c : ℕ) (fs : List OpenFrame) →
+    DashOr b key k → IsPositive c → Holes fs →
+    nat_le (blocks_open (MappingFrame c Asking ∷ fs)) a.options.block_nesting_limit ≡ true →
+    WantedView b k key a c Asking fs (NodeTest b k key a.lexeme c)
+node_asked b k key a c fs (another n) p h e =
+    subst (WantedView b k key a c Asking fs)
     (sym
-    (ap₂ (λ a b. a || b)
-    (ap (λ d. d && is_in_column (token_column (token_of b (at_kind l k key))) (one_less c)) n)
-    (begins_right (token_sort b key k) l.start.place.column c p)))
-    (node_tested b k key s l o last given NoProperties (MappingFrame c Asking ∷ fs) (at_asked p h) asked_hole e
+    (ap₂ (λ d r. d || r)
+    (ap (λ d. d && is_in_column (token_column (arriving_token b k key a)) (one_less c)) n)
+    (begins_right (token_sort b key k) a.lexeme.start.place.column c p)))
+    (node_tested b k key a NoProperties (MappingFrame c Asking ∷ fs) (at_asked p h) asked_hole e
     (joined_none b (terminal_kind k key)) n)
-node_asked b lexemes.Dash key s l o last given c fs a_dash p h e =
-    subst (WantedView b lexemes.Dash key s l o last given c Asking fs)
+node_asked b lexemes.Dash key a c fs a_dash p h e =
+    subst (WantedView b lexemes.Dash key a c Asking fs)
     (sym
-    (ap₂ (λ a b. a || b) (stands_same b s (at_kind l lexemes.Dash key) c p)
-    (begins_right DashToken l.start.place.column c p)))
-    (dash_tested b key s l o last given NoProperties (MappingFrame c Asking ∷ fs) (at_asked p h) asked_hole)
+    (ap₂ (λ d r. d || r) (stands_same b a.scope (at_kind a.lexeme lexemes.Dash key) c p)
+    (begins_right DashToken a.lexeme.start.place.column c p)))
+    (dash_tested b key a NoProperties (MappingFrame c Asking ∷ fs) (at_asked p h) asked_hole)
 
 node_valued :
-    (b : Bool) (k : lexemes.LexemeKind) (key : Option KeyStart) (s : Scope) (l : lexemes.Lexeme) (o : OptionsData)
-    (last : Mark) (given : List PlainEvent) (c : ℕ) (w : Mark) (fs : List OpenFrame) → DashOr b key k → IsPositive c →
-    Holes fs → nat_le (blocks_open (MappingFrame c (Value w) ∷ fs)) o.block_nesting_limit ≡ true →
-    WantedView b k key s l o last given c (Value w) fs (NodeTest b k key l c)
-node_valued b k key s l o last given c w fs (another n) p h e =
-    subst (WantedView b k key s l o last given c (Value w) fs)
+    (b : Bool) (k : lexemes.LexemeKind) (key : Option KeyStart) (a : Arrival) (c : ℕ) (w : Mark) (fs : List OpenFrame) →
+    DashOr b key k → IsPositive c →
+    Holes fs → nat_le (blocks_open (MappingFrame c (Value w) ∷ fs)) a.options.block_nesting_limit ≡ true →
+    WantedView b k key a c (Value w) fs (NodeTest b k key a.lexeme c)
+node_valued b k key a c w fs (another n) p h e =
+    subst (WantedView b k key a c (Value w) fs)
     (sym
-    (ap₂ (λ a b. a || b)
-    (ap (λ d. d && is_in_column (token_column (token_of b (at_kind l k key))) (one_less c)) n)
-    (begins_right (token_sort b key k) l.start.place.column c p)))
-    (node_tested b k key s l o last given NoProperties (MappingFrame c (Value w) ∷ fs) (at_value p h) value_hole e
+    (ap₂ (λ d r. d || r)
+    (ap (λ d. d && is_in_column (token_column (arriving_token b k key a)) (one_less c)) n)
+    (begins_right (token_sort b key k) a.lexeme.start.place.column c p)))
+    (node_tested b k key a NoProperties (MappingFrame c (Value w) ∷ fs) (at_value p h) value_hole e
     (joined_none b (terminal_kind k key)) n)
-node_valued b lexemes.Dash key s l o last given c w fs a_dash p h e =
-    subst (WantedView b lexemes.Dash key s l o last given c (Value w) fs)
+node_valued b lexemes.Dash key a c w fs a_dash p h e =
+    subst (WantedView b lexemes.Dash key a c (Value w) fs)
     (sym
-    (ap₂ (λ a b. a || b) (stands_same b s (at_kind l lexemes.Dash key) c p)
-    (begins_right DashToken l.start.place.column c p)))
-    (dash_tested b key s l o last given NoProperties (MappingFrame c (Value w) ∷ fs) (at_value p h) value_hole)
+    (ap₂ (λ d r. d || r) (stands_same b a.scope (at_kind a.lexeme lexemes.Dash key) c p)
+    (begins_right DashToken a.lexeme.start.place.column c p)))
+    (dash_tested b key a NoProperties (MappingFrame c (Value w) ∷ fs) (at_value p h) value_hole)
 
 pub both_false : (a b : Bool) → a ≡ false → b ≡ false → (a || b) ≡ false
 both_false true b e f = e
 both_false false b e f = f
 
 rest_given :
-    (b : Bool) (k : lexemes.LexemeKind) (key : Option KeyStart) (s : Scope) (l : lexemes.Lexeme) (o : OptionsData)
-    (last : Mark) (given : List PlainEvent) (c : ℕ) (at : PairAt) (fs : List OpenFrame) → Between at → IsPositive c →
-    Holes fs → stands_left (X b k key s l) c ≡ false → entry_in (X b k key s l) c ≡ false →
-    nat_le (blocks_open (MappingFrame c at ∷ fs)) o.block_nesting_limit ≡ true →
-    RestView b k key s l o last given c at fs
-rest_given b k key s l o last given c at fs asking p h f e q =
-    subst (LimitView o (X b k key s l) (knowing o s last given) (Rest b k key s l o last given c Asking fs))
+    (b : Bool) (k : lexemes.LexemeKind) (key : Option KeyStart) (a : Arrival) (c : ℕ) (at : PairAt)
+    (fs : List OpenFrame) → Between at → IsPositive c →
+    Holes fs → stands_left (arriving b k key a) c ≡ false → entry_in (arriving b k key a) c ≡ false →
+    nat_le (blocks_open (MappingFrame c at ∷ fs)) a.options.block_nesting_limit ≡ true →
+    RestView b k key a c at fs
+rest_given b k key a c at fs asking p h f e q =
+    subst (LimitView a.options (arriving b k key a) (beside_at a) (Rest b k key a c Asking fs))
     (sym
-    (stays_taken (stands_left (X b k key s l) c || entry_in (X b k key s l) c)
-    (nothing_frames (X b k key s l) (MappingFrame c Asking ∷ fs)) (In c Asking fs) (X b k key s l)
+    (stays_taken (stands_left (arriving b k key a) c || entry_in (arriving b k key a) c)
+    (nothing_frames (arriving b k key a) (MappingFrame c Asking ∷ fs)) (In c Asking fs) (arriving b k key a)
     (both_false _ _ f e)))
-    (node_asked b k key s l o last given c fs (dash_or b key k) p h q)
-rest_given b k key s l o last given c at fs (valued {w = w}) p h f e q =
-    subst (LimitView o (X b k key s l) (knowing o s last given) (Rest b k key s l o last given c (Value w) fs))
+    (node_asked b k key a c fs (dash_or b key k) p h q)
+rest_given b k key a c at fs (valued {w = w}) p h f e q =
+    subst (LimitView a.options (arriving b k key a) (beside_at a) (Rest b k key a c (Value w) fs))
     (sym
-    (stays_taken (stands_left (X b k key s l) c || entry_in (X b k key s l) c)
-    (nothing_frames (X b k key s l) (MappingFrame c (Value w) ∷ fs)) (In c (Value w) fs) (X b k key s l)
+    (stays_taken (stands_left (arriving b k key a) c || entry_in (arriving b k key a) c)
+    (nothing_frames (arriving b k key a) (MappingFrame c (Value w) ∷ fs)) (In c (Value w) fs) (arriving b k key a)
     (both_false _ _ f e)))
-    (node_valued b k key s l o last given c w fs (dash_or b key k) p h q)
-rest_given b k key s l o last given c at fs asked p h f e q =
-    subst (LimitView o (X b k key s l) (knowing o s last given) (Rest b k key s l o last given c AskDone fs))
+    (node_valued b k key a c w fs (dash_or b key k) p h q)
+rest_given b k key a c at fs asked p h f e q =
+    subst (LimitView a.options (arriving b k key a) (beside_at a) (Rest b k key a c AskDone fs))
     (sym
-    (asked_ends (X b k key s l) c fs (PastMapping (X b k key s l) fs) (stands_left (X b k key s l) c)
-    (bare_in (X b k key s l) c) f (bare_no (terminal_kind k key) b (stands_in (X b k key s l) c) e)
+    (asked_ends (arriving b k key a) c fs (PastMapping (arriving b k key a) fs) (stands_left (arriving b k key a) c)
+    (bare_in (arriving b k key a) c) f (bare_no (terminal_kind k key) b (stands_in (arriving b k key a) c) e)
     ∙ ap
     (λ r.
-    after_events (Before AskDone c l.start)
+    after_events (Before AskDone c a.lexeme.start)
     (if_gives r ExpectedBlockMappingKey
-    (entry_frames ExpectedBlockMappingKey (BlockSite c fs) (X b k key s l).kind (X b k key s l).at)))
+    (entry_frames ExpectedBlockMappingKey (BlockSite c fs) (arriving b k key a).kind (arriving b k key a).at)))
     e))
     refl
-rest_given b k key s l o last given c at fs paired p h f e q =
-    subst (LimitView o (X b k key s l) (knowing o s last given) (Rest b k key s l o last given c Done fs))
+rest_given b k key a c at fs paired p h f e q =
+    subst (LimitView a.options (arriving b k key a) (beside_at a) (Rest b k key a c Done fs))
     (sym
-    (paired_ends (X b k key s l) c fs (PastMapping (X b k key s l) fs) (stands_left (X b k key s l) c) f
+    (paired_ends (arriving b k key a) c fs (PastMapping (arriving b k key a) fs) (stands_left (arriving b k key a) c) f
     ∙ ap
     (λ r.
-    after_events (Before Done c l.start)
+    after_events (Before Done c a.lexeme.start)
     (if_gives r ExpectedBlockMappingKey
-    (entry_frames ExpectedBlockMappingKey (BlockSite c fs) (X b k key s l).kind (X b k key s l).at)))
+    (entry_frames ExpectedBlockMappingKey (BlockSite c fs) (arriving b k key a).kind (arriving b k key a).at)))
     e))
     refl
 
 mapping_by :
-    (b : Bool) (k : lexemes.LexemeKind) (key : Option KeyStart) (s : Scope) (l : lexemes.Lexeme) (o : OptionsData)
-    (last : Mark) (given : List PlainEvent) (c : ℕ) (at : PairAt) (fs : List OpenFrame) (entry : Bool) → Between at →
-    IsPositive c → Holes fs → stands_left (X b k key s l) c ≡ false → entry_in (X b k key s l) c ≡ entry →
-    nat_le (blocks_open (MappingFrame c at ∷ fs)) o.block_nesting_limit ≡ true →
-    LimitView o (X b k key s l) (knowing o s last given)
-    (if entry then NextPair b k key s l o last given c at fs else Rest b k key s l o last given c at fs)
-    (taken (ended_by (X b k key s l) (In c at fs)) (X b k key s l))
-mapping_by b k key s l o last given c at fs true w p h f e q = entry_given b k key s l o last given c at fs w p h f e q
-mapping_by b k key s l o last given c at fs false w p h f e q = rest_given b k key s l o last given c at fs w p h f e q
+    (b : Bool) (k : lexemes.LexemeKind) (key : Option KeyStart) (a : Arrival) (c : ℕ) (at : PairAt)
+    (fs : List OpenFrame) (entry : Bool) → Between at →
+    IsPositive c → Holes fs → stands_left (arriving b k key a) c ≡ false → entry_in (arriving b k key a) c ≡ entry →
+    nat_le (blocks_open (MappingFrame c at ∷ fs)) a.options.block_nesting_limit ≡ true →
+    LimitView a.options (arriving b k key a) (beside_at a)
+    (if entry then NextPair b k key a c at fs else Rest b k key a c at fs)
+    (taken (ended_by (arriving b k key a) (In c at fs)) (arriving b k key a))
+mapping_by b k key a c at fs true w p h f e q = entry_given b k key a c at fs w p h f e q
+mapping_by b k key a c at fs false w p h f e q = rest_given b k key a c at fs w p h f e q
 
 pub mapping_steps :
-    (b : Bool) (k : lexemes.LexemeKind) (key : Option KeyStart) (s : Scope) (l : lexemes.Lexeme) (o : OptionsData)
-    (last : Mark) (given : List PlainEvent) (c : ℕ) (at : PairAt) (fs : List OpenFrame) → Between at → IsPositive c →
-    Holes fs → stands_left (X b k key s l) c ≡ false →
-    nat_le (blocks_open (MappingFrame c at ∷ fs)) o.block_nesting_limit ≡ true →
-    StepsLimited b k key s l o last given (MappingFrame c at ∷ fs)
-mapping_steps b k key s l o last given c at fs w p h f q =
+    (b : Bool) (k : lexemes.LexemeKind) (key : Option KeyStart) (a : Arrival) (c : ℕ) (at : PairAt)
+    (fs : List OpenFrame) → Between at → IsPositive c → Holes fs → stands_left (arriving b k key a) c ≡ false →
+    nat_le (blocks_open (MappingFrame c at ∷ fs)) a.options.block_nesting_limit ≡ true →
+    StepsLimited b k key a (MappingFrame c at ∷ fs)
+mapping_steps b k key a c at fs w p h f q =
     subst
     (λ r.
-    LimitView o (X b k key s l) (knowing o s last given) r
-    (taken (ended_by (X b k key s l) (In c at fs)) (X b k key s l)))
-    (sym (indicator_is b k key s l o last given c at fs w p))
-    (mapping_by b k key s l o last given c at fs (entry_in (X b k key s l) c) w p h f refl q)
+    LimitView a.options (arriving b k key a) (beside_at a) r
+    (taken (ended_by (arriving b k key a) (In c at fs)) (arriving b k key a)))
+    (sym (indicator_is b k key a c at fs w p))
+    (mapping_by b k key a c at fs (entry_in (arriving b k key a) c) w p h f refl q)

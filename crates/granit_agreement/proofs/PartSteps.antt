@@ -2,17 +2,17 @@
 use Rattle.granit_agreement.specs.Good.{Holes, at_root, at_entry, at_key, at_asked, at_value, at_item, at_curly}
 use Rattle.granit_agreement.specs.Good.{curly_key, curly_asked, curly_value, made_key, made_value, pair_asked}
 use Rattle.granit_agreement.specs.Good.{pair_value}
-use Rattle.granit_agreement.specs.Stepping.{MeansView, StepView, at_kind, knowing, staying}
-use Rattle.granit_agreement.specs.Steps.{PartsAgree, topped}
+use Rattle.granit_agreement.specs.Stepping.{MeansView, StepView, at_kind, staying}
+use Rattle.granit_agreement.specs.Steps.{topped}
 use Rattle.granit_agreement.specs.View.{last_of, with_given, frames_of, Beside, state_of}
-use Rattle.granit_language.specs.Seen.{terminal_of, at_of, indent_of}
+use Rattle.granit_language.specs.Seen.{indent_of}
 use Rattle.granit_grammar.specs.EventMachine.{OpenFrame, InFrames, frames_indent, put_frames, flow_frame, part_frames}
 use Rattle.granit_language.specs.GrammarFault.{GrammarFault, UnknownAnchor, UndeclaredTagHandle}
 use Rattle.granit_language.specs.Node.{TreeProperties, NoProperties, One, Two}
 use Rattle.granit_language.specs.Room.{joins}
 use Rattle.granit_language.specs.Scope.{Scope, entry_of}
-use Rattle.granit_language.specs.Scoping.{number_of_anchor, prefix_of, prefix_by, fault_if_none, alias_fault}
-use Rattle.granit_language.specs.Scoping.{kept_of, or_kept, scope_fault}
+use Rattle.granit_language.specs.Scoping.{number_of_anchor, prefix_of, prefix_by, fault_if_none, alias_fault, kept_of}
+use Rattle.granit_language.specs.Scoping.{or_kept, scope_fault}
 use Rattle.granit_language.specs.Telling.{alias_told, or_handle, properties_anchor, properties_tag, indent_told}
 use Rattle.granit_language.specs.Telling.{anchor_told}
 use Rattle.granit_language.specs.Terminal.{Anchor, Tag, Part, Alias, Property, Scalar, Open}
@@ -21,12 +21,10 @@ use Rattle.granit_lexemes.specs.declared.layout.Bracket.TheVariants.{Square, Cur
 use Rattle.granit_machine.specs.Frames.{ParserState}
 use Rattle.granit_machine.specs.Giving.{put, flush, key_indent, node_event}
 use Rattle.granit_machine.specs.NodeEnds.{finish, begin}
-use Rattle.granit_machine.specs.NodeSteps.{bare}
 use Rattle.granit_machine.specs.TokenSort.{token_of}
 use Rattle.std.proofs.Common.{◌≡◌, ℕ, Bool, true, false, List, [], ◌∷◌, ◌++◌, length, codes, refl, sym, ap, ap₂, ◌∙◌}
 use Rattle.std.proofs.Common.{subst, ◌==◌, nat_lt, Option, Some, None, Result, Ok, Err}
 use Rattle.std.specs.Prelude.{◌&&◌, if◌then◌else◌}
-use Rattle.granit_base.specs.Place.{Mark}
 use Rattle.granit_base.specs.Written.{Written}
 use Rattle.granit_base.specs.declared.style.ScalarStyle.{ScalarStyle}
 use Rattle.granit_base.specs.declared.style.StructureStyle.TheVariants.{Flow}
@@ -36,11 +34,12 @@ use Rattle.granit_lexemes.specs.Lexeme as lexemes
 use Rattle.granit_lexemes.specs.Source.{Source}
 use Rattle.granit_lexemes.specs.Outcome.{Fault, fault_at, ◌>>=◌}
 use Rattle.granit_lexemes.specs.PlainEvent as plain
-use Rattle.granit_lexemes.specs.PlainEvent.{PlainEvent, PlainTag, event_at}
+use Rattle.granit_lexemes.specs.PlainEvent.{PlainEvent, PlainTag}
 use Rattle.granit_machine.specs.Frames as machine
 use Rattle.granit_machine.specs.Entries.{lookup_text}
 use Rattle.granit_machine.specs.NodeSteps as steps
 use Rattle.granit_agreement.specs.Ordered.{ordered}
+use Rattle.granit_agreement.proofs.Arrivals.{Arrival, arriving, arriving_token, beside_at, parser_at, PartsAgree}
 use Rattle.granit_agreement.proofs.Lookups.{found_in_order}
 use Rattle.granit_agreement.proofs.Pops.{indent_none, node_head, node_event_view, flushed, indent_or, indent_view}
 use Rattle.granit_agreement.proofs.Standing.{popped, finish_view}
@@ -56,8 +55,7 @@ HeadGiven o p kind source indent given =
 
 hole_event :
     (o : OptionsData) (kind : ℕ → Option PlainTag → plain.EventKind) (source : Source) (own : Option ℕ)
-    (fs : List OpenFrame) (d : Beside) →
-    Holes fs →
+    (fs : List OpenFrame) (d : Beside) → Holes fs →
     node_event o kind source own (state_of o (InFrames fs) d)
     ≡ popped o fs source.end (HeadGiven o NoProperties kind source (key_indent (frames_of o fs) own) d.given) d
 unfolding node_event node_head
@@ -87,18 +85,16 @@ hole_event o kind source own fs d (pair_value h) = refl
 
 pub node_begins :
     (o : OptionsData) (p : TreeProperties) (kind : ℕ → Option PlainTag → plain.EventKind) (source : Source)
-    (own : Option ℕ) (fs : List OpenFrame) (d : Beside) →
-    Holes fs →
+    (own : Option ℕ) (fs : List OpenFrame) (d : Beside) → Holes fs →
     node_event o kind source own (state_of o (InFrames (topped p fs)) d)
     ≡ popped o fs source.end (HeadGiven o p kind source (key_indent (frames_of o fs) own) d.given) d
 unfolding node_event
 node_begins o NoProperties kind source own fs d h = hole_event o kind source own fs d h
 node_begins o (One k i) kind source own fs d h =
-    node_event_view o (properties_anchor (One k i)) (properties_tag o (One k i)) i.shown.end kind source own fs d.last
-    d.given d
+    node_event_view o (properties_anchor (One k i)) (properties_tag o (One k i)) i.shown.end kind source own fs d
 node_begins o (Two k i m j) kind source own fs d h =
     node_event_view o (properties_anchor (Two k i m j)) (properties_tag o (Two k i m j)) j.shown.end kind source own fs
-    d.last d.given d
+    d
 
 -- its indent
 indent_imposed : (i own : Option ℕ) → indent_or i own ≡ indent_told (imposed i (indent_of own))
@@ -111,8 +107,7 @@ framed f q = record q { frames = f ∷ q.frames }
 
 scalar_given :
     (o : OptionsData) (p : TreeProperties) (style : ScalarStyle) (text : Written) (l : lexemes.Lexeme)
-    (fs : List OpenFrame) (d : Beside) →
-    Holes fs →
+    (fs : List OpenFrame) (d : Beside) → Holes fs →
     finish
     (node_event o (λ number tag. plain.Scalar text style number tag) l.shown l.indent
     (state_of o (InFrames (topped p fs)) d))
@@ -136,16 +131,15 @@ scalar_given o p style text l fs d h =
     d h)
 
 pub scalar_parts :
-    (b : Bool) (style : ScalarStyle) (text : Written) (s : Scope) (l : lexemes.Lexeme) (o : OptionsData) (last : Mark)
-    (given : List PlainEvent) (p : TreeProperties) (fs : List OpenFrame) (stop : GrammarFault) →
-    Holes fs → PartsAgree b (Scalar style text) (lexemes.Scalar style text) s l o last given p fs stop
+    (b : Bool) (style : ScalarStyle) (text : Written) (a : Arrival) (p : TreeProperties) (fs : List OpenFrame)
+    (stop : GrammarFault) → Holes fs → PartsAgree b (Scalar style text) (lexemes.Scalar style text) a p fs stop
 unfolding node_head
-scalar_parts b style text s l o last given NoProperties fs stop h =
-    ((l.shown.end, scalar_given o NoProperties style text l fs (knowing o s last given) h), refl)
-scalar_parts b style text s l o last given (One k i) fs stop h =
-    ((l.shown.end, scalar_given o (One k i) style text l fs (knowing o s last given) h), refl)
-scalar_parts b style text s l o last given (Two k i m j) fs stop h =
-    ((l.shown.end, scalar_given o (Two k i m j) style text l fs (knowing o s last given) h), refl)
+scalar_parts b style text a NoProperties fs stop h =
+    ((a.lexeme.shown.end, scalar_given a.options NoProperties style text a.lexeme fs (beside_at a) h), refl)
+scalar_parts b style text a (One k i) fs stop h =
+    ((a.lexeme.shown.end, scalar_given a.options (One k i) style text a.lexeme fs (beside_at a) h), refl)
+scalar_parts b style text a (Two k i m j) fs stop h =
+    ((a.lexeme.shown.end, scalar_given a.options (Two k i m j) style text a.lexeme fs (beside_at a) h), refl)
 
 square_given :
     (o : OptionsData) (p : TreeProperties) (l : lexemes.Lexeme) (fs : List OpenFrame) (d : Beside) → Holes fs →
@@ -167,16 +161,15 @@ square_given o p l fs d h =
     (indent_view o fs None h ∙ indent_none (frames_indent fs))
 
 pub square_parts :
-    (b : Bool) (s : Scope) (l : lexemes.Lexeme) (o : OptionsData) (last : Mark) (given : List PlainEvent)
-    (p : TreeProperties) (fs : List OpenFrame) (stop : GrammarFault) →
-    Holes fs → PartsAgree b (Open Square) (lexemes.Open brackets.Square) s l o last given p fs stop
+    (b : Bool) (a : Arrival) (p : TreeProperties) (fs : List OpenFrame) (stop : GrammarFault) →
+    Holes fs → PartsAgree b (Open Square) (lexemes.Open brackets.Square) a p fs stop
 unfolding node_head
-square_parts b s l o last given NoProperties fs stop h =
-    ((l.shown.end, square_given o NoProperties l fs (knowing o s last given) h), refl)
-square_parts b s l o last given (One k i) fs stop h =
-    ((l.shown.end, square_given o (One k i) l fs (knowing o s last given) h), refl)
-square_parts b s l o last given (Two k i m j) fs stop h =
-    ((l.shown.end, square_given o (Two k i m j) l fs (knowing o s last given) h), refl)
+square_parts b a NoProperties fs stop h =
+    ((a.lexeme.shown.end, square_given a.options NoProperties a.lexeme fs (beside_at a) h), refl)
+square_parts b a (One k i) fs stop h =
+    ((a.lexeme.shown.end, square_given a.options (One k i) a.lexeme fs (beside_at a) h), refl)
+square_parts b a (Two k i m j) fs stop h =
+    ((a.lexeme.shown.end, square_given a.options (Two k i m j) a.lexeme fs (beside_at a) h), refl)
 
 curly_given :
     (o : OptionsData) (p : TreeProperties) (l : lexemes.Lexeme) (fs : List OpenFrame) (d : Beside) → Holes fs →
@@ -198,70 +191,68 @@ curly_given o p l fs d h =
     (indent_view o fs None h ∙ indent_none (frames_indent fs))
 
 pub curly_parts :
-    (b : Bool) (s : Scope) (l : lexemes.Lexeme) (o : OptionsData) (last : Mark) (given : List PlainEvent)
-    (p : TreeProperties) (fs : List OpenFrame) (stop : GrammarFault) →
-    Holes fs → PartsAgree b (Open Curly) (lexemes.Open brackets.Curly) s l o last given p fs stop
+    (b : Bool) (a : Arrival) (p : TreeProperties) (fs : List OpenFrame) (stop : GrammarFault) →
+    Holes fs → PartsAgree b (Open Curly) (lexemes.Open brackets.Curly) a p fs stop
 unfolding node_head
-curly_parts b s l o last given NoProperties fs stop h =
-    ((l.shown.end, curly_given o NoProperties l fs (knowing o s last given) h), refl)
-curly_parts b s l o last given (One k i) fs stop h =
-    ((l.shown.end, curly_given o (One k i) l fs (knowing o s last given) h), refl)
-curly_parts b s l o last given (Two k i m j) fs stop h =
-    ((l.shown.end, curly_given o (Two k i m j) l fs (knowing o s last given) h), refl)
+curly_parts b a NoProperties fs stop h =
+    ((a.lexeme.shown.end, curly_given a.options NoProperties a.lexeme fs (beside_at a) h), refl)
+curly_parts b a (One k i) fs stop h =
+    ((a.lexeme.shown.end, curly_given a.options (One k i) a.lexeme fs (beside_at a) h), refl)
+curly_parts b a (Two k i m j) fs stop h =
+    ((a.lexeme.shown.end, curly_given a.options (Two k i m j) a.lexeme fs (beside_at a) h), refl)
 
 -- ---- properties
 
 pub anchor_parts :
-    (b : Bool) (name : Written) (s : Scope) (l : lexemes.Lexeme) (o : OptionsData) (last : Mark)
-    (given : List PlainEvent) (p : TreeProperties) (fs : List OpenFrame) (stop : GrammarFault) →
+    (b : Bool) (name : Written) (a : Arrival) (p : TreeProperties) (fs : List OpenFrame) (stop : GrammarFault) →
     Holes fs → joins p (Property (Anchor name)) ≡ true →
-    PartsAgree b (Property (Anchor name)) (lexemes.Anchor name) s l o last given p fs stop
-anchor_parts b name s l o last given (One (Anchor a) i) fs stop h e = cc (e)
-anchor_parts b name s l o last given (One (Tag u v) i) fs stop h e = ((last, refl), refl)
-anchor_parts b name s l o last given (Two k i m j) fs stop h e = cc (e)
-anchor_parts b name s l o last given NoProperties fs stop (at_root {m = None}) e = ((last_of fs last, refl), refl)
-anchor_parts b name s l o last given NoProperties fs stop (at_root {m = Some m}) e = ((last_of fs last, refl), refl)
-anchor_parts b name s l o last given NoProperties fs stop (at_entry {w = w} q h) e = (
+    PartsAgree b (Property (Anchor name)) (lexemes.Anchor name) a p fs stop
+anchor_parts b name a (One (Anchor n) i) fs stop h e = cc (e)
+anchor_parts b name a (One (Tag u v) i) fs stop h e = ((a.last, refl), refl)
+anchor_parts b name a (Two k i m j) fs stop h e = cc (e)
+anchor_parts b name a NoProperties fs stop (at_root {m = None}) e = ((last_of fs a.last, refl), refl)
+anchor_parts b name a NoProperties fs stop (at_root {m = Some m}) e = ((last_of fs a.last, refl), refl)
+anchor_parts b name a NoProperties fs stop (at_entry {w = w} q h) e = (
   (
-    last,
-    ap (steps.anchored (token_of b (at_kind l (lexemes.Anchor name) None)) name)
-        (flushed o w o.max_buffered_comment_events (state_of o (InFrames fs) (knowing o s last given))),
+    a.last,
+    ap (steps.anchored (arriving_token b (lexemes.Anchor name) None a) name)
+        (flushed a.options w a.options.max_buffered_comment_events (parser_at fs a)),
   ),
   refl,
 )
-anchor_parts b name s l o last given NoProperties fs stop (at_key q h) e = ((last_of fs last, refl), refl)
-anchor_parts b name s l o last given NoProperties fs stop (at_asked q h) e = ((last_of fs last, refl), refl)
-anchor_parts b name s l o last given NoProperties fs stop (at_value {w = w} q h) e = (
+anchor_parts b name a NoProperties fs stop (at_key q h) e = ((last_of fs a.last, refl), refl)
+anchor_parts b name a NoProperties fs stop (at_asked q h) e = ((last_of fs a.last, refl), refl)
+anchor_parts b name a NoProperties fs stop (at_value {w = w} q h) e = (
   (
-    last,
-    ap (steps.anchored (token_of b (at_kind l (lexemes.Anchor name) None)) name)
-        (flushed o w o.max_buffered_comment_events (state_of o (InFrames fs) (knowing o s last given))),
+    a.last,
+    ap (steps.anchored (arriving_token b (lexemes.Anchor name) None a) name)
+        (flushed a.options w a.options.max_buffered_comment_events (parser_at fs a)),
   ),
   refl,
 )
-anchor_parts b name s l o last given NoProperties fs stop (at_item h) e = ((last_of fs last, refl), refl)
-anchor_parts b name s l o last given NoProperties fs stop (at_curly h) e = ((last_of fs last, refl), refl)
-anchor_parts b name s l o last given NoProperties fs stop (curly_key h) e = ((last_of fs last, refl), refl)
-anchor_parts b name s l o last given NoProperties fs stop (curly_asked h) e = ((last_of fs last, refl), refl)
-anchor_parts b name s l o last given NoProperties fs stop (curly_value {w = w} h) e = (
+anchor_parts b name a NoProperties fs stop (at_item h) e = ((last_of fs a.last, refl), refl)
+anchor_parts b name a NoProperties fs stop (at_curly h) e = ((last_of fs a.last, refl), refl)
+anchor_parts b name a NoProperties fs stop (curly_key h) e = ((last_of fs a.last, refl), refl)
+anchor_parts b name a NoProperties fs stop (curly_asked h) e = ((last_of fs a.last, refl), refl)
+anchor_parts b name a NoProperties fs stop (curly_value {w = w} h) e = (
   (
-    last,
-    ap (steps.anchored (token_of b (at_kind l (lexemes.Anchor name) None)) name)
-        (flushed o w o.max_buffered_comment_events (state_of o (InFrames fs) (knowing o s last given))),
+    a.last,
+    ap (steps.anchored (arriving_token b (lexemes.Anchor name) None a) name)
+        (flushed a.options w a.options.max_buffered_comment_events (parser_at fs a)),
   ),
   refl,
 )
-anchor_parts b name s l o last given NoProperties fs stop (made_key h) e = ((last_of fs last, refl), refl)
-anchor_parts b name s l o last given NoProperties fs stop (made_value {w = w} h) e = (
+anchor_parts b name a NoProperties fs stop (made_key h) e = ((last_of fs a.last, refl), refl)
+anchor_parts b name a NoProperties fs stop (made_value {w = w} h) e = (
   (
-    last,
-    ap (steps.anchored (token_of b (at_kind l (lexemes.Anchor name) None)) name)
-        (flushed o w o.max_buffered_comment_events (state_of o (InFrames fs) (knowing o s last given))),
+    a.last,
+    ap (steps.anchored (arriving_token b (lexemes.Anchor name) None a) name)
+        (flushed a.options w a.options.max_buffered_comment_events (parser_at fs a)),
   ),
   refl,
 )
-anchor_parts b name s l o last given NoProperties fs stop (pair_asked h) e = ((last_of fs last, refl), refl)
-anchor_parts b name s l o last given NoProperties fs stop (pair_value h) e = ((last_of fs last, refl), refl)
+anchor_parts b name a NoProperties fs stop (pair_asked h) e = ((last_of fs a.last, refl), refl)
+anchor_parts b name a NoProperties fs stop (pair_value h) e = ((last_of fs a.last, refl), refl)
 
 -- what lists say is one
 -- ---- tags
@@ -321,124 +312,125 @@ TagLexeme l handle suffix = at_kind l (lexemes.Tag handle suffix) None
 
 -- behind properties, with a prefix
 tag_goes :
-    (b : Bool) (handle suffix : List ℕ) (s : Scope) (l : lexemes.Lexeme) (o : OptionsData) (last : Mark)
-    (given : List PlainEvent) (p : TreeProperties) (fs : List OpenFrame) (stop : GrammarFault) (r : List ℕ) →
-    Holes fs → joins p (Property (Tag handle suffix)) ≡ true → prefix_of o handle s ≡ Some r →
-    StepView o (terminal_of b s (TagLexeme l handle suffix)) (knowing o s last given)
+    (b : Bool) (handle suffix : List ℕ) (a : Arrival) (p : TreeProperties) (fs : List OpenFrame) (stop : GrammarFault)
+    (r : List ℕ) →
+    Holes fs → joins p (Property (Tag handle suffix)) ≡ true → prefix_of a.options handle a.scope ≡ Some r →
+    StepView a.options (arriving b (lexemes.Tag handle suffix) None a) (beside_at a)
     (Ok
-    (steps.tagged (token_of b (TagLexeme l handle suffix)) handle suffix (or_handle handle (prefix_of o handle s))
-    (flush (state_of o (InFrames (topped p fs)) (knowing o s last given)))))
-    (part_frames stop fs p (Property (Tag handle suffix)) (at_of b s (TagLexeme l handle suffix)))
-tag_goes b handle suffix s l o last given (One (Tag u v) i) fs stop r h e t = cc (e)
-tag_goes b handle suffix s l o last given (One (Anchor a) i) fs stop r h e t = (last, refl)
-tag_goes b handle suffix s l o last given (Two k i m j) fs stop r h e t = cc (e)
-tag_goes b handle suffix s l o last given NoProperties fs stop r (at_root {m = None}) e t = (last_of fs last, refl)
-tag_goes b handle suffix s l o last given NoProperties fs stop r (at_root {m = Some m}) e t = (last_of fs last, refl)
-tag_goes b handle suffix s l o last given NoProperties fs stop r (at_entry {w = w} q h) e t = (
-  last,
-  ap (steps.tagged (token_of b (TagLexeme l handle suffix)) handle suffix (or_handle handle (prefix_of o handle s)))
-      (flushed o w o.max_buffered_comment_events (state_of o (InFrames fs) (knowing o s last given))),
+    (steps.tagged (arriving_token b (lexemes.Tag handle suffix) None a) handle suffix
+    (or_handle handle (prefix_of a.options handle a.scope))
+    (flush (parser_at (topped p fs) a))))
+    (part_frames stop fs p (Property (Tag handle suffix)) (arriving b (lexemes.Tag handle suffix) None a).at)
+tag_goes b handle suffix a (One (Tag u v) i) fs stop r h e t = cc (e)
+tag_goes b handle suffix a (One (Anchor n) i) fs stop r h e t = (a.last, refl)
+tag_goes b handle suffix a (Two k i m j) fs stop r h e t = cc (e)
+tag_goes b handle suffix a NoProperties fs stop r (at_root {m = None}) e t = (last_of fs a.last, refl)
+tag_goes b handle suffix a NoProperties fs stop r (at_root {m = Some m}) e t = (last_of fs a.last, refl)
+tag_goes b handle suffix a NoProperties fs stop r (at_entry {w = w} q h) e t = (
+  a.last,
+  ap (steps.tagged (arriving_token b (lexemes.Tag handle suffix) None a) handle suffix
+      (or_handle handle (prefix_of a.options handle a.scope)))
+      (flushed a.options w a.options.max_buffered_comment_events (parser_at fs a)),
 )
-tag_goes b handle suffix s l o last given NoProperties fs stop r (at_key q h) e t = (last_of fs last, refl)
-tag_goes b handle suffix s l o last given NoProperties fs stop r (at_asked q h) e t = (last_of fs last, refl)
-tag_goes b handle suffix s l o last given NoProperties fs stop r (at_value {w = w} q h) e t = (
-  last,
-  ap (steps.tagged (token_of b (TagLexeme l handle suffix)) handle suffix (or_handle handle (prefix_of o handle s)))
-      (flushed o w o.max_buffered_comment_events (state_of o (InFrames fs) (knowing o s last given))),
+tag_goes b handle suffix a NoProperties fs stop r (at_key q h) e t = (last_of fs a.last, refl)
+tag_goes b handle suffix a NoProperties fs stop r (at_asked q h) e t = (last_of fs a.last, refl)
+tag_goes b handle suffix a NoProperties fs stop r (at_value {w = w} q h) e t = (
+  a.last,
+  ap (steps.tagged (arriving_token b (lexemes.Tag handle suffix) None a) handle suffix
+      (or_handle handle (prefix_of a.options handle a.scope)))
+      (flushed a.options w a.options.max_buffered_comment_events (parser_at fs a)),
 )
-tag_goes b handle suffix s l o last given NoProperties fs stop r (at_item h) e t = (last_of fs last, refl)
-tag_goes b handle suffix s l o last given NoProperties fs stop r (at_curly h) e t = (last_of fs last, refl)
-tag_goes b handle suffix s l o last given NoProperties fs stop r (curly_key h) e t = (last_of fs last, refl)
-tag_goes b handle suffix s l o last given NoProperties fs stop r (curly_asked h) e t = (last_of fs last, refl)
-tag_goes b handle suffix s l o last given NoProperties fs stop r (curly_value {w = w} h) e t = (
-  last,
-  ap (steps.tagged (token_of b (TagLexeme l handle suffix)) handle suffix (or_handle handle (prefix_of o handle s)))
-      (flushed o w o.max_buffered_comment_events (state_of o (InFrames fs) (knowing o s last given))),
+tag_goes b handle suffix a NoProperties fs stop r (at_item h) e t = (last_of fs a.last, refl)
+tag_goes b handle suffix a NoProperties fs stop r (at_curly h) e t = (last_of fs a.last, refl)
+tag_goes b handle suffix a NoProperties fs stop r (curly_key h) e t = (last_of fs a.last, refl)
+tag_goes b handle suffix a NoProperties fs stop r (curly_asked h) e t = (last_of fs a.last, refl)
+tag_goes b handle suffix a NoProperties fs stop r (curly_value {w = w} h) e t = (
+  a.last,
+  ap (steps.tagged (arriving_token b (lexemes.Tag handle suffix) None a) handle suffix
+      (or_handle handle (prefix_of a.options handle a.scope)))
+      (flushed a.options w a.options.max_buffered_comment_events (parser_at fs a)),
 )
-tag_goes b handle suffix s l o last given NoProperties fs stop r (made_key h) e t = (last_of fs last, refl)
-tag_goes b handle suffix s l o last given NoProperties fs stop r (made_value {w = w} h) e t = (
-  last,
-  ap (steps.tagged (token_of b (TagLexeme l handle suffix)) handle suffix (or_handle handle (prefix_of o handle s)))
-      (flushed o w o.max_buffered_comment_events (state_of o (InFrames fs) (knowing o s last given))),
+tag_goes b handle suffix a NoProperties fs stop r (made_key h) e t = (last_of fs a.last, refl)
+tag_goes b handle suffix a NoProperties fs stop r (made_value {w = w} h) e t = (
+  a.last,
+  ap (steps.tagged (arriving_token b (lexemes.Tag handle suffix) None a) handle suffix
+      (or_handle handle (prefix_of a.options handle a.scope)))
+      (flushed a.options w a.options.max_buffered_comment_events (parser_at fs a)),
 )
-tag_goes b handle suffix s l o last given NoProperties fs stop r (pair_asked h) e t = (last_of fs last, refl)
-tag_goes b handle suffix s l o last given NoProperties fs stop r (pair_value h) e t = (last_of fs last, refl)
+tag_goes b handle suffix a NoProperties fs stop r (pair_asked h) e t = (last_of fs a.last, refl)
+tag_goes b handle suffix a NoProperties fs stop r (pair_value h) e t = (last_of fs a.last, refl)
 
 abbrev TagMeans :
-    Bool → List ℕ → List ℕ → Scope → lexemes.Lexeme → OptionsData → Mark → List PlainEvent → TreeProperties →
-    List OpenFrame → GrammarFault → Result (List ℕ) Fault → Type 0
-TagMeans b handle suffix s l o last given p fs stop r =
-    MeansView o (terminal_of b s (TagLexeme l handle suffix)) (knowing o s last given)
+    Bool → List ℕ → List ℕ → Arrival → TreeProperties → List OpenFrame → GrammarFault → Result (List ℕ) Fault → Type 0
+TagMeans b handle suffix a p fs stop r =
+    MeansView a.options (arriving b (lexemes.Tag handle suffix) None a) (beside_at a)
     (r
     >>= λ prefix.
     Ok
-    (steps.tagged (token_of b (TagLexeme l handle suffix)) handle suffix prefix
-    (flush (state_of o (InFrames (topped p fs)) (knowing o s last given)))))
-    (part_frames stop fs p (Property (Tag handle suffix)) (at_of b s (TagLexeme l handle suffix)))
+    (steps.tagged (arriving_token b (lexemes.Tag handle suffix) None a) handle suffix prefix
+    (flush (parser_at (topped p fs) a))))
+    (part_frames stop fs p (Property (Tag handle suffix)) (arriving b (lexemes.Tag handle suffix) None a).at)
 
 tag_means :
-    (b : Bool) (handle suffix : List ℕ) (s : Scope) (l : lexemes.Lexeme) (o : OptionsData) (last : Mark)
-    (given : List PlainEvent) (p : TreeProperties) (fs : List OpenFrame) (stop : GrammarFault) (r : Option (List ℕ)) →
-    Holes fs → joins p (Property (Tag handle suffix)) ≡ true → prefix_of o handle s ≡ r →
-    TagMeans b handle suffix s l o last given p fs stop (of_prefix l r)
-tag_means b handle suffix s l o last given (One (Tag u v) i) fs stop r h e t = cc (e)
-tag_means b handle suffix s l o last given (Two k i m j) fs stop r h e t = cc (e)
-tag_means b handle suffix s l o last given (One (Anchor a) i) fs stop None h e t =
+    (b : Bool) (handle suffix : List ℕ) (a : Arrival) (p : TreeProperties) (fs : List OpenFrame) (stop : GrammarFault)
+    (r : Option (List ℕ)) →
+    Holes fs → joins p (Property (Tag handle suffix)) ≡ true → prefix_of a.options handle a.scope ≡ r →
+    TagMeans b handle suffix a p fs stop (of_prefix a.lexeme r)
+tag_means b handle suffix a (One (Tag u v) i) fs stop r h e t = cc (e)
+tag_means b handle suffix a (Two k i m j) fs stop r h e t = cc (e)
+tag_means b handle suffix a (One (Anchor n) i) fs stop None h e t =
     (UndeclaredTagHandle, ap (λ r. fault_if_none r UndeclaredTagHandle) t, refl)
-tag_means b handle suffix s l o last given NoProperties fs stop None h e t =
+tag_means b handle suffix a NoProperties fs stop None h e t =
     (UndeclaredTagHandle, ap (λ r. fault_if_none r UndeclaredTagHandle) t, refl)
-tag_means b handle suffix s l o last given (One (Anchor a) i) fs stop (Some r) h e t = (
+tag_means b handle suffix a (One (Anchor n) i) fs stop (Some r) h e t = (
   subst
       (λ prefix.
-      StepView o (terminal_of b s (TagLexeme l handle suffix)) (knowing o s last given)
+      StepView a.options (arriving b (lexemes.Tag handle suffix) None a) (beside_at a)
       (Ok
-      (steps.tagged (token_of b (TagLexeme l handle suffix)) handle suffix prefix
-      (flush (state_of o (InFrames (topped (One (Anchor a) i) fs)) (knowing o s last given)))))
-      (part_frames stop fs (One (Anchor a) i) (Property (Tag handle suffix))
-      (at_of b s (TagLexeme l handle suffix))))
-      (ap (or_handle handle) t) (tag_goes b handle suffix s l o last given (One (Anchor a) i) fs stop r h e t),
+      (steps.tagged (arriving_token b (lexemes.Tag handle suffix) None a) handle suffix prefix
+      (flush (parser_at (topped (One (Anchor n) i) fs) a))))
+      (part_frames stop fs (One (Anchor n) i) (Property (Tag handle suffix))
+      (arriving b (lexemes.Tag handle suffix) None a).at))
+      (ap (or_handle handle) t) (tag_goes b handle suffix a (One (Anchor n) i) fs stop r h e t),
   ap (λ r. fault_if_none r UndeclaredTagHandle) t,
 )
-tag_means b handle suffix s l o last given NoProperties fs stop (Some r) h e t = (
+tag_means b handle suffix a NoProperties fs stop (Some r) h e t = (
   subst
       (λ prefix.
-      StepView o (terminal_of b s (TagLexeme l handle suffix)) (knowing o s last given)
+      StepView a.options (arriving b (lexemes.Tag handle suffix) None a) (beside_at a)
       (Ok
-      (steps.tagged (token_of b (TagLexeme l handle suffix)) handle suffix prefix
-      (flush (state_of o (InFrames fs) (knowing o s last given)))))
-      (part_frames stop fs NoProperties (Property (Tag handle suffix)) (at_of b s (TagLexeme l handle suffix))))
-      (ap (or_handle handle) t) (tag_goes b handle suffix s l o last given NoProperties fs stop r h e t),
+      (steps.tagged (arriving_token b (lexemes.Tag handle suffix) None a) handle suffix prefix
+      (flush (parser_at fs a))))
+      (part_frames stop fs NoProperties (Property (Tag handle suffix))
+      (arriving b (lexemes.Tag handle suffix) None a).at))
+      (ap (or_handle handle) t) (tag_goes b handle suffix a NoProperties fs stop r h e t),
   ap (λ r. fault_if_none r UndeclaredTagHandle) t,
 )
 
 pub tag_parts :
-    (b : Bool) (handle suffix : List ℕ) (s : Scope) (l : lexemes.Lexeme) (o : OptionsData) (last : Mark)
-    (given : List PlainEvent) (p : TreeProperties) (fs : List OpenFrame) (stop : GrammarFault) →
+    (b : Bool) (handle suffix : List ℕ) (a : Arrival) (p : TreeProperties) (fs : List OpenFrame) (stop : GrammarFault) →
     Holes fs → joins p (Property (Tag handle suffix)) ≡ true →
-    PartsAgree b (Property (Tag handle suffix)) (lexemes.Tag handle suffix) s l o last given p fs stop
-tag_parts b handle suffix s l o last given NoProperties fs stop h e =
-    subst (TagMeans b handle suffix s l o last given NoProperties fs stop)
+    PartsAgree b (Property (Tag handle suffix)) (lexemes.Tag handle suffix) a p fs stop
+tag_parts b handle suffix a NoProperties fs stop h e =
+    subst (TagMeans b handle suffix a NoProperties fs stop)
     (sym
-    (prefix_same b (TagLexeme l handle suffix) handle (known_in o handle s)
-    ∙ ap (λ q. of_prefix l (prefix_by handle q)) (known_same o handle s)))
-    (tag_means b handle suffix s l o last given NoProperties fs stop (prefix_of o handle s) h e refl)
-tag_parts b handle suffix s l o last given (One k i) fs stop h e =
-    subst (TagMeans b handle suffix s l o last given (One k i) fs stop)
+    (prefix_same b (TagLexeme a.lexeme handle suffix) handle (known_in a.options handle a.scope)
+    ∙ ap (λ q. of_prefix a.lexeme (prefix_by handle q)) (known_same a.options handle a.scope)))
+    (tag_means b handle suffix a NoProperties fs stop (prefix_of a.options handle a.scope) h e refl)
+tag_parts b handle suffix a (One k i) fs stop h e =
+    subst (TagMeans b handle suffix a (One k i) fs stop)
     (sym
-    (prefix_same b (TagLexeme l handle suffix) handle (known_in o handle s)
-    ∙ ap (λ q. of_prefix l (prefix_by handle q)) (known_same o handle s)))
-    (tag_means b handle suffix s l o last given (One k i) fs stop (prefix_of o handle s) h e refl)
-tag_parts b handle suffix s l o last given (Two k i m j) fs stop h e =
-    subst (TagMeans b handle suffix s l o last given (Two k i m j) fs stop)
+    (prefix_same b (TagLexeme a.lexeme handle suffix) handle (known_in a.options handle a.scope)
+    ∙ ap (λ q. of_prefix a.lexeme (prefix_by handle q)) (known_same a.options handle a.scope)))
+    (tag_means b handle suffix a (One k i) fs stop (prefix_of a.options handle a.scope) h e refl)
+tag_parts b handle suffix a (Two k i m j) fs stop h e =
+    subst (TagMeans b handle suffix a (Two k i m j) fs stop)
     (sym
-    (prefix_same b (TagLexeme l handle suffix) handle (known_in o handle s)
-    ∙ ap (λ q. of_prefix l (prefix_by handle q)) (known_same o handle s)))
-    (tag_means b handle suffix s l o last given (Two k i m j) fs stop (prefix_of o handle s) h e refl)
+    (prefix_same b (TagLexeme a.lexeme handle suffix) handle (known_in a.options handle a.scope)
+    ∙ ap (λ q. of_prefix a.lexeme (prefix_by handle q)) (known_same a.options handle a.scope)))
+    (tag_means b handle suffix a (Two k i m j) fs stop (prefix_of a.options handle a.scope) h e refl)
 
 -- ---- aliases
-
-abbrev AliasLexeme : lexemes.Lexeme → Written → lexemes.Lexeme
-AliasLexeme l name = at_kind l (lexemes.Alias name) None
 
 alias_given :
     (o : OptionsData) (kind : plain.EventKind) (l : lexemes.Lexeme) (fs : List OpenFrame) (d : Beside) → Holes fs →
@@ -454,94 +446,77 @@ alias_given o kind l fs d h =
     ∙ finish_view o fs l.shown.end
     (HeadGiven o NoProperties (λ number tag. kind) l.shown (indent_told (frames_indent fs)) d.given) d h)
 
-alias_told_as :
-    (o : OptionsData) (name : Written) (s : Scope) (r : Option ℕ) (l : lexemes.Lexeme) (fs : List OpenFrame)
-    (last : Mark) (given : List PlainEvent) →
-    number_of_anchor name.characters s ≡ r →
-    state_of o (put_frames l.shown.end fs)
-    (with_given l.shown.end
-    (HeadGiven o NoProperties (λ number tag. alias_told name r) l.shown (indent_told (frames_indent fs)) given)
-    (knowing o s last given))
-    ≡ state_of o (put_frames l.shown.end fs)
-    (with_given l.shown.end
-    (HeadGiven o NoProperties (λ number tag. alias_told name (number_of_anchor name.characters s)) l.shown
-    (indent_told (frames_indent fs)) given)
-    (knowing o s last given))
-alias_told_as o name s r l fs last given e =
-    ap
-    (λ r.
-    state_of o (put_frames l.shown.end fs)
-    (with_given l.shown.end
-    (HeadGiven o NoProperties (λ number tag. alias_told name r) l.shown (indent_told (frames_indent fs))
-    given)
-    (knowing o s last given)))
-    (sym e)
+-- the parser behind an alias that is told so
+abbrev TellsAlias : Written → Arrival → List OpenFrame → Option ℕ → ParserState
+TellsAlias name a fs r =
+    state_of a.options (put_frames a.lexeme.shown.end fs)
+    (with_given a.lexeme.shown.end
+    (HeadGiven a.options NoProperties (λ number tag. alias_told name r) a.lexeme.shown (indent_told (frames_indent fs))
+    a.given)
+    (beside_at a))
 
-abbrev AliasMeans :
-    Bool → Written → Scope → lexemes.Lexeme → OptionsData → Mark → List PlainEvent → List OpenFrame → GrammarFault →
-    Result ParserState Fault → Type 0
-AliasMeans b name s l o last given fs stop r =
-    MeansView o (terminal_of b s (AliasLexeme l name)) (knowing o s last given) r
-    (part_frames stop fs NoProperties (Alias name) (at_of b s (AliasLexeme l name)))
+alias_told_as :
+    (name : Written) (a : Arrival) (r : Option ℕ) (fs : List OpenFrame) →
+    number_of_anchor name.characters a.scope ≡ r →
+    TellsAlias name a fs r ≡ TellsAlias name a fs (number_of_anchor name.characters a.scope)
+alias_told_as name a r fs e = ap (TellsAlias name a fs) (sym e)
+
+abbrev AliasMeans : Bool → Written → Arrival → List OpenFrame → GrammarFault → Result ParserState Fault → Type 0
+AliasMeans b name a fs stop r =
+    MeansView a.options (arriving b (lexemes.Alias name) None a) (beside_at a) r
+    (part_frames stop fs NoProperties (Alias name) (arriving b (lexemes.Alias name) None a).at)
 
 alias_goes :
-    (b : Bool) (name : Written) (s : Scope) (l : lexemes.Lexeme) (o : OptionsData) (last : Mark)
-    (given : List PlainEvent) (fs : List OpenFrame) (stop : GrammarFault) (r : Option ℕ) →
-    Holes fs → number_of_anchor name.characters s ≡ r →
-    scope_fault o (Part (Alias name)) s ≡ None →
-    AliasMeans b name s l o last given fs stop
+    (b : Bool) (name : Written) (a : Arrival) (fs : List OpenFrame) (stop : GrammarFault) (r : Option ℕ) →
+    Holes fs → number_of_anchor name.characters a.scope ≡ r →
+    scope_fault a.options (Part (Alias name)) a.scope ≡ None →
+    AliasMeans b name a fs stop
     (Ok
     (finish
-    (node_event o (λ number tag. alias_told name r) l.shown None
-    (state_of o (InFrames fs) (knowing o s last given)))))
+    (node_event a.options (λ number tag. alias_told name r) a.lexeme.shown None (parser_at fs a))))
 unfolding node_head
-alias_goes b name s l o last given fs stop r h e f = (
+alias_goes b name a fs stop r h e f = (
   (
-    l.shown.end,
-    alias_given o (alias_told name r) l fs (knowing o s last given) h ∙ alias_told_as o name s r l fs last given e,
+    a.lexeme.shown.end,
+    alias_given a.options (alias_told name r) a.lexeme fs (beside_at a) h ∙ alias_told_as name a r fs e,
   ),
   f,
 )
 
 alias_unknown :
-    (b : Bool) (name : Written) (s : Scope) (l : lexemes.Lexeme) (o : OptionsData) (last : Mark)
-    (given : List PlainEvent) (fs : List OpenFrame) (stop : GrammarFault) (u : Bool) →
-    o.emit_unresolved_aliases ≡ u → Holes fs → number_of_anchor name.characters s ≡ None →
-    AliasMeans b name s l o last given fs stop
+    (b : Bool) (name : Written) (a : Arrival) (fs : List OpenFrame) (stop : GrammarFault) (u : Bool) →
+    a.options.emit_unresolved_aliases ≡ u → Holes fs → number_of_anchor name.characters a.scope ≡ None →
+    AliasMeans b name a fs stop
     (if u then Ok
     (finish
-    (node_event o (λ number tag. plain.UnresolvedAlias name) l.shown None
-    (state_of o (InFrames fs) (knowing o s last given))))
-    else Err (fault_at refused.UnknownAnchor l.shown.start))
-alias_unknown b name s l o last given fs stop true u h e =
-    alias_goes b name s l o last given fs stop None h e (ap₂ (λ u r. alias_fault u r) u e)
-alias_unknown b name s l o last given fs stop false u h e = (UnknownAnchor, ap₂ (λ u r. alias_fault u r) u e, refl)
+    (node_event a.options (λ number tag. plain.UnresolvedAlias name) a.lexeme.shown None (parser_at fs a)))
+    else Err (fault_at refused.UnknownAnchor a.lexeme.shown.start))
+alias_unknown b name a fs stop true u h e =
+    alias_goes b name a fs stop None h e (ap₂ (λ u r. alias_fault u r) u e)
+alias_unknown b name a fs stop false u h e = (UnknownAnchor, ap₂ (λ u r. alias_fault u r) u e, refl)
 
 known_alias : (u : Bool) (n : ℕ) → alias_fault u (Some n) ≡ None
 known_alias true n = refl
 known_alias false n = refl
 
 alias_means :
-    (b : Bool) (name : Written) (s : Scope) (l : lexemes.Lexeme) (o : OptionsData) (last : Mark)
-    (given : List PlainEvent) (fs : List OpenFrame) (stop : GrammarFault) (r : Option ℕ) →
-    Holes fs → number_of_anchor name.characters s ≡ r →
-    AliasMeans b name s l o last given fs stop
-    (steps.alias_by o (token_of b (AliasLexeme l name)) name r (state_of o (InFrames fs) (knowing o s last given)))
-alias_means b name s l o last given fs stop (Some n) h e =
-    alias_goes b name s l o last given fs stop (Some n) h e
-    (ap (alias_fault o.emit_unresolved_aliases) e ∙ known_alias o.emit_unresolved_aliases n)
-alias_means b name s l o last given fs stop None h e =
-    alias_unknown b name s l o last given fs stop o.emit_unresolved_aliases refl h e
+    (b : Bool) (name : Written) (a : Arrival) (fs : List OpenFrame) (stop : GrammarFault) (r : Option ℕ) →
+    Holes fs → number_of_anchor name.characters a.scope ≡ r →
+    AliasMeans b name a fs stop
+    (steps.alias_by a.options (arriving_token b (lexemes.Alias name) None a) name r (parser_at fs a))
+alias_means b name a fs stop (Some n) h e =
+    alias_goes b name a fs stop (Some n) h e
+    (ap (alias_fault a.options.emit_unresolved_aliases) e ∙ known_alias a.options.emit_unresolved_aliases n)
+alias_means b name a fs stop None h e =
+    alias_unknown b name a fs stop a.options.emit_unresolved_aliases refl h e
 
 pub alias_parts :
-    (b : Bool) (name : Written) (s : Scope) (l : lexemes.Lexeme) (o : OptionsData) (last : Mark)
-    (given : List PlainEvent) (fs : List OpenFrame) (stop : GrammarFault) →
-    Holes fs → PartsAgree b (Alias name) (lexemes.Alias name) s l o last given NoProperties fs stop
-alias_parts b name s l o last given fs stop h =
+    (b : Bool) (name : Written) (a : Arrival) (fs : List OpenFrame) (stop : GrammarFault) →
+    Holes fs → PartsAgree b (Alias name) (lexemes.Alias name) a NoProperties fs stop
+alias_parts b name a fs stop h =
     subst
     (λ r.
-    AliasMeans b name s l o last given fs stop
-    (steps.alias_by o (token_of b (AliasLexeme l name)) name r
-    (state_of o (InFrames fs) (knowing o s last given))))
-    (sym (found_in_order name.characters s.names))
-    (alias_means b name s l o last given fs stop (number_of_anchor name.characters s) h refl)
+    AliasMeans b name a fs stop
+    (steps.alias_by a.options (arriving_token b (lexemes.Alias name) None a) name r (parser_at fs a)))
+    (sym (found_in_order name.characters a.scope.names))
+    (alias_means b name a fs stop (number_of_anchor name.characters a.scope) h refl)

@@ -3,12 +3,12 @@ use Rattle.std.proofs.Common.{◌≡◌, ℕ, Bool, true, false, List, [], ◌�
 use Rattle.std.proofs.Common.{Some, None}
 use Rattle.std.specs.Prelude.{if◌then◌else◌}
 use Rattle.std.proofs.lemmas.List.{append-nil}
-use Rattle.granit_base.specs.Place.{Mark}
+use Rattle.granit_base.specs.Place.{Mark, Mark}
 use Rattle.granit_base.specs.Written.{Written, lent}
 use Rattle.granit_base.specs.declared.style.ScalarStyle.TheVariants.{Plain}
 use Rattle.granit_error.specs.OptionsData.{OptionsData}
 use Rattle.granit_lexemes.specs.Source.{Source}
-use Rattle.granit_lexemes.specs.PlainEvent.{PlainEvent, PlainTag, EventKind, event_at}
+use Rattle.granit_lexemes.specs.PlainEvent.{PlainEvent, PlainTag, event_at}
 use Rattle.granit_lexemes.specs.PlainEvent as plain
 use Rattle.granit_lexemes.specs.Lexeme as lexemes
 use Rattle.granit_agreement.specs.Fair.{frame_ends_at}
@@ -19,7 +19,6 @@ use Rattle.granit_agreement.specs.Good.{ask_done, pair_done, item_done, curly_ke
 use Rattle.granit_agreement.specs.Good.{curly_done, made_key_done, made_done, square_ask_done, square_done}
 use Rattle.granit_agreement.specs.View.{frames_of, parser_properties, Beside, state_of, give_all, with_given, waits_at}
 use Rattle.granit_language.specs.Seen.{terminal_of}
-use Rattle.granit_base.specs.Place.{Mark}
 use Rattle.granit_grammar.specs.EventMachine.{Asking, AskDone, Done, Value, OpenFrame, DocumentFrame, PropertiesFrame}
 use Rattle.granit_grammar.specs.EventMachine.{SequenceFrame, MappingFrame, FlowSequenceFrame, FlowMappingFrame}
 use Rattle.granit_grammar.specs.EventMachine.{FlowPairFrame, InFrames, frames_indent, put_frames, PairAt}
@@ -32,8 +31,7 @@ use Rattle.granit_language.specs.TreeEvents.{alone_text, SequenceEnds, MappingEn
 use Rattle.granit_language.specs.TreeEvents.{alone_event, properties_end}
 use Rattle.granit_machine.specs.Closing.{end_top}
 use Rattle.granit_machine.specs.Frames.{ParserState}
-use Rattle.granit_machine.specs.Giving.{put, flush_held, null_at, key_indent, tell_anchor, node_event_by}
-use Rattle.granit_machine.specs.Giving.{node_event}
+use Rattle.granit_machine.specs.Giving.{put, flush_held, null_at, key_indent, tell_anchor, node_event_by, node_event}
 use Rattle.granit_machine.specs.NodeEnds.{null_text, finish, end_by, end_node, end_properties, null_node, empty_span}
 use Rattle.granit_machine.specs.TokenSort.{token_of}
 use Rattle.granit_agreement.proofs.Standing.{popped, finish_view}
@@ -253,19 +251,19 @@ node_head A T kind source indent = record {
 
 pub node_event_view :
     (o : OptionsData) (A : AnchorTold) (T : TagTold) (behind : Mark) (kind : ℕ → Option PlainTag → plain.EventKind)
-    (source : Source) (own : Option ℕ) (fs : List OpenFrame) (last : Mark) (given : List PlainEvent) (d : Beside) →
-    node_event_by o (record { anchor = A; tag = T; end = behind }) kind source own (popped o fs last given d)
-    ≡ popped o fs source.end (given ++ node_head A T kind source (key_indent (frames_of o fs) own) ∷ anchor_told o A [])
-    d
+    (source : Source) (own : Option ℕ) (fs : List OpenFrame) (d : Beside) →
+    node_event_by o (record { anchor = A; tag = T; end = behind }) kind source own (popped o fs d.last d.given d)
+    ≡ popped o fs source.end
+    (d.given ++ node_head A T kind source (key_indent (frames_of o fs) own) ∷ anchor_told o A []) d
 unfolding node_head
-node_event_view o None None behind kind source own fs last given d = refl
-node_event_view o None (Some t) behind kind source own fs last given d = refl
-node_event_view o (Some a) None behind kind source own fs last given d =
+node_event_view o None None behind kind source own fs d = refl
+node_event_view o None (Some t) behind kind source own fs d = refl
+node_event_view o (Some a) None behind kind source own fs d =
     tell_view o (Some a) (node_head (Some a) None kind source (key_indent (frames_of o fs) own))
-    (popped o fs last given d)
-node_event_view o (Some a) (Some t) behind kind source own fs last given d =
+    (popped o fs d.last d.given d)
+node_event_view o (Some a) (Some t) behind kind source own fs d =
     tell_view o (Some a) (node_head (Some a) (Some t) kind source (key_indent (frames_of o fs) own))
-    (popped o fs last given d)
+    (popped o fs d.last d.given d)
 
 text_same : (o : OptionsData) (p : TreeProperties) → GoodProperties p → null_text (properties_tag o p) ≡ alone_text p
 text_same o NoProperties g = absurd g
@@ -295,7 +293,7 @@ unfolding end_properties node_event node_head
 pops_properties o x d p fs g h =
     ap finish
     (node_event_view o (properties_anchor p) (properties_tag o p) (properties_end p) (null_node (parser_properties o p))
-    (empty_span (properties_end p)) None fs d.last d.given d)
+    (empty_span (properties_end p)) None fs d)
     ∙
     (ap₂ (λ text indent. finish (popped o fs (properties_end p) (AloneGiven o p text indent d.given) d))
     (text_same o p g)

@@ -1,10 +1,8 @@
 -- Steps at a document's root, behind a `-` and behind an entry of a block sequence.
 use Rattle.granit_agreement.specs.Fair.{frame_ends_at}
 use Rattle.granit_agreement.specs.Good.{Holes, at_root, at_entry, IsPositive}
-use Rattle.granit_agreement.specs.Stepping.{taken, LimitView, at_kind, knowing}
-use Rattle.granit_agreement.specs.Steps.{StepsLimited}
-use Rattle.granit_agreement.specs.View.{state_of}
-use Rattle.granit_language.specs.Seen.{terminal_kind, terminal_of, at_of}
+use Rattle.granit_agreement.specs.Stepping.{taken, LimitView, at_kind}
+use Rattle.granit_language.specs.Seen.{terminal_kind}
 use Rattle.granit_grammar.specs.EventMachine.{OpenFrame, DocumentFrame, SequenceFrame, EventState, InFrames, Ending}
 use Rattle.granit_grammar.specs.EventMachine.{ending, with_event, finish_frames, frames_empty, nothing_frames, GoesTo}
 use Rattle.granit_grammar.specs.EventMachine.{StopsWith, after_events, if_gives, take_frames, want_frames}
@@ -14,7 +12,6 @@ use Rattle.granit_language.specs.GrammarFault.{GrammarFault, UnexpectedEofBlockS
 use Rattle.granit_language.specs.GrammarFault.{fault_of}
 use Rattle.granit_language.specs.Node.{NoProperties}
 use Rattle.granit_language.specs.Room.{sequence_over}
-use Rattle.granit_language.specs.Scope.{Scope}
 use Rattle.granit_language.specs.Telling.{one_less}
 use Rattle.granit_language.specs.Terminal.{Terminal, TerminalKind, Dash, At, is_dash_kind, stands_left, stands_in}
 use Rattle.granit_language.specs.Terminal.{dash_in, entry_in}
@@ -26,7 +23,7 @@ use Rattle.granit_machine.specs.Giving.{put, null_at, give_empty}
 use Rattle.granit_machine.specs.NodeEnds.{waits, with_top}
 use Rattle.granit_machine.specs.NodeSteps.{take_dash, NextEntry}
 use Rattle.granit_machine.specs.Parser.{take_token}
-use Rattle.granit_machine.specs.TokenSort.{TokenSort, token_of, token_sort, begins_node, is_dash_token, column_of_token}
+use Rattle.granit_machine.specs.TokenSort.{TokenSort, token_sort, begins_node, is_dash_token, column_of_token}
 use Rattle.granit_machine.specs.TokenSort.{token_column, is_in_column, is_right_of, BeginsKey, BeginsNode, DashToken}
 use Rattle.granit_machine.specs.TokenSort.{QuestionToken, BareColon, KeyedColon, CommaToken, SequenceCloser}
 use Rattle.granit_machine.specs.TokenSort.{MappingCloser, OfStream}
@@ -37,9 +34,9 @@ use Rattle.std.specs.Prelude.{nat_le, if◌then◌else◌}
 use Rattle.granit_base.specs.Place.{Mark}
 use Rattle.granit_error.specs.OptionsData.{OptionsData}
 use Rattle.granit_lexemes.specs.Outcome.{Fault}
-use Rattle.granit_lexemes.specs.PlainEvent.{PlainEvent}
 use Rattle.granit_lexemes.specs.Lexeme as lexemes
 use Rattle.granit_machine.specs.Frames as machine
+use Rattle.granit_agreement.proofs.Arrivals.{Arrival, arriving, arriving_token, beside_at, parser_at, StepsLimited}
 use Rattle.granit_agreement.proofs.Dashes.{DashOr, a_dash, another, dash_or}
 use Rattle.granit_agreement.proofs.NodeTests.{joined_none, Tested, NodeOf, node_tested, dash_tested}
 use Rattle.granit_agreement.proofs.Pops.{flushed}
@@ -53,9 +50,6 @@ pub stays_taken :
     taken (choose e y (ending st [])) x ≡ take_frames st x.kind x.at
 stays_taken true y st x h = cc (h)
 stays_taken false y st x h = after_nothing (take_frames st x.kind x.at)
-
-abbrev X : Bool → lexemes.LexemeKind → Option KeyStart → Scope → lexemes.Lexeme → Terminal
-X b k key s l = terminal_of b s (at_kind l k key)
 
 -- ---- at the root of a document
 
@@ -72,43 +66,39 @@ root_empty :
 root_empty None x e = refl
 root_empty (Some m) x e = e
 
-abbrev pub RootStep :
-    Bool → lexemes.LexemeKind → Option KeyStart → Scope → lexemes.Lexeme → OptionsData → Mark → List PlainEvent →
-    Option Mark → Bool → Type 0
-RootStep b k key s l o last given m r =
-    LimitView o (X b k key s l) (knowing o s last given)
-    (Tested r (NodeOf b k key s l o last given NoProperties (DocumentFrame m ∷ [])) UnexpectedEofBlockSequence
-    (X b k key s l))
-    (want_frames (DocumentFrame m ∷ []) NoProperties (terminal_kind k key) (at_of b s (at_kind l k key)))
+abbrev pub RootStep : Bool → lexemes.LexemeKind → Option KeyStart → Arrival → Option Mark → Bool → Type 0
+RootStep b k key a m r =
+    LimitView a.options (arriving b k key a) (beside_at a)
+    (Tested r (NodeOf b k key a NoProperties (DocumentFrame m ∷ [])) UnexpectedEofBlockSequence
+    (arriving b k key a))
+    (want_frames (DocumentFrame m ∷ []) NoProperties (terminal_kind k key) (arriving b k key a).at)
 
 pub root_by :
-    (b : Bool) (k : lexemes.LexemeKind) (key : Option KeyStart) (s : Scope) (l : lexemes.Lexeme) (o : OptionsData)
-    (last : Mark) (given : List PlainEvent) (m : Option Mark) → DashOr b key k →
-    nat_le 0 o.block_nesting_limit ≡ true → RootStep b k key s l o last given m (begins_node (token_sort b key k))
-root_by b k key s l o last given m (another n) e =
-    subst (RootStep b k key s l o last given m)
-    (and_true (begins_node (token_sort b key k)) _ (right_zero l.start.place.column))
-    (node_tested b k key s l o last given NoProperties (DocumentFrame m ∷ []) at_root root_hole e
+    (b : Bool) (k : lexemes.LexemeKind) (key : Option KeyStart) (a : Arrival) (m : Option Mark) → DashOr b key k →
+    nat_le 0 a.options.block_nesting_limit ≡ true → RootStep b k key a m (begins_node (token_sort b key k))
+root_by b k key a m (another n) e =
+    subst (RootStep b k key a m)
+    (and_true (begins_node (token_sort b key k)) _ (right_zero a.lexeme.start.place.column))
+    (node_tested b k key a NoProperties (DocumentFrame m ∷ []) at_root root_hole e
     (joined_none b (terminal_kind k key)) n)
-root_by b lexemes.Dash key s l o last given m a_dash e =
-    subst (RootStep b lexemes.Dash key s l o last given m) (right_zero l.start.place.column)
-    (dash_tested b key s l o last given NoProperties (DocumentFrame m ∷ []) at_root root_hole)
+root_by b lexemes.Dash key a m a_dash e =
+    subst (RootStep b lexemes.Dash key a m) (right_zero a.lexeme.start.place.column)
+    (dash_tested b key a NoProperties (DocumentFrame m ∷ []) at_root root_hole)
 
 pub root_steps :
-    (b : Bool) (k : lexemes.LexemeKind) (key : Option KeyStart) (s : Scope) (l : lexemes.Lexeme) (o : OptionsData)
-    (last : Mark) (given : List PlainEvent) (m : Option Mark) →
-    frame_ends_at (X b k key s l) (InFrames (DocumentFrame m ∷ [])) ≡ false → nat_le 0 o.block_nesting_limit ≡ true →
-    StepsLimited b k key s l o last given (DocumentFrame m ∷ [])
-root_steps b k key s l o last given m f e =
+    (b : Bool) (k : lexemes.LexemeKind) (key : Option KeyStart) (a : Arrival) (m : Option Mark) →
+    frame_ends_at (arriving b k key a) (InFrames (DocumentFrame m ∷ [])) ≡ false →
+    nat_le 0 a.options.block_nesting_limit ≡ true →
+    StepsLimited b k key a (DocumentFrame m ∷ [])
+root_steps b k key a m f e =
     subst
-    (LimitView o (X b k key s l) (knowing o s last given)
-    (take_token o (token_of b (at_kind l k key))
-    (state_of o (InFrames (DocumentFrame m ∷ [])) (knowing o s last given))))
+    (LimitView a.options (arriving b k key a) (beside_at a)
+    (take_token a.options (arriving_token b k key a) (parser_at (DocumentFrame m ∷ []) a)))
     (sym
-    (stays_taken (frames_empty (DocumentFrame m ∷ []) (X b k key s l))
-    (nothing_frames (X b k key s l) (DocumentFrame m ∷ []))
-    (InFrames (DocumentFrame m ∷ [])) (X b k key s l) (root_empty m (X b k key s l) f)))
-    (root_by b k key s l o last given m (dash_or b key k) e)
+    (stays_taken (frames_empty (DocumentFrame m ∷ []) (arriving b k key a))
+    (nothing_frames (arriving b k key a) (DocumentFrame m ∷ []))
+    (InFrames (DocumentFrame m ∷ [])) (arriving b k key a) (root_empty m (arriving b k key a) f)))
+    (root_by b k key a m (dash_or b key k) e)
 
 -- ---- behind a `-`
 
@@ -142,79 +132,74 @@ abbrev Chosen :
     Result ParserState Fault
 Chosen y n stop x a r = if a then y else Tested r n stop x
 
-abbrev Next :
-    Bool → lexemes.LexemeKind → Option KeyStart → Scope → lexemes.Lexeme → OptionsData → Mark → List PlainEvent → Bool →
-    List OpenFrame → Result ParserState Fault
-Next b k key s l o last given loose fs =
-    take_dash o (token_of b (at_kind l k key)) NextEntry loose
-    (give_empty (state_of o (InFrames fs) (knowing o s last given)))
+abbrev Next : Bool → lexemes.LexemeKind → Option KeyStart → Arrival → Bool → List OpenFrame → Result ParserState Fault
+Next b k key a loose fs =
+    take_dash a.options (arriving_token b k key a) NextEntry loose
+    (give_empty (parser_at fs a))
 
 entry_other :
-    (b : Bool) (k : lexemes.LexemeKind) (key : Option KeyStart) (s : Scope) (l : lexemes.Lexeme) (o : OptionsData)
-    (last : Mark) (given : List PlainEvent) (loose : Bool) (c : ℕ) (w : Mark) (fs : List OpenFrame) → IsPositive c →
-    Holes fs → is_dash_token (token_sort b key k) ≡ false →
-    frame_ends_at (X b k key s l) (InFrames (Entry loose c w fs)) ≡ false →
-    nat_le (blocks_open (Entry loose c w fs)) o.block_nesting_limit ≡ true →
-    StepsLimited b k key s l o last given (Entry loose c w fs)
+    (b : Bool) (k : lexemes.LexemeKind) (key : Option KeyStart) (a : Arrival) (loose : Bool) (c : ℕ) (w : Mark)
+    (fs : List OpenFrame) → IsPositive c → Holes fs → is_dash_token (token_sort b key k) ≡ false →
+    frame_ends_at (arriving b k key a) (InFrames (Entry loose c w fs)) ≡ false →
+    nat_le (blocks_open (Entry loose c w fs)) a.options.block_nesting_limit ≡ true →
+    StepsLimited b k key a (Entry loose c w fs)
 unfolding in_sequence
-entry_other b k key s l o last given loose c w fs p h n f e =
+entry_other b k key a loose c w fs p h n f e =
     subst
-    (LimitView o (X b k key s l) (knowing o s last given)
-    (take_token o (token_of b (at_kind l k key))
-    (state_of o (InFrames (Entry loose c w fs)) (knowing o s last given))))
+    (LimitView a.options (arriving b k key a) (beside_at a)
+    (take_token a.options (arriving_token b k key a) (parser_at (Entry loose c w fs) a)))
     (sym
-    (stays_taken (frames_empty (Entry loose c w fs) (X b k key s l))
-    (nothing_frames (X b k key s l) (Entry loose c w fs))
-    (InFrames (Entry loose c w fs)) (X b k key s l)
-    (entry_same_empty (stands_left (X b k key s l) c) (dash_in (X b k key s l) c) (entry_in (X b k key s l) c) loose
-    (ap (λ d. d && stands_in (X b k key s l) c) (sym (sort_is b key k).dash ∙ n)) f)))
+    (stays_taken (frames_empty (Entry loose c w fs) (arriving b k key a))
+    (nothing_frames (arriving b k key a) (Entry loose c w fs))
+    (InFrames (Entry loose c w fs)) (arriving b k key a)
+    (entry_same_empty (stands_left (arriving b k key a) c) (dash_in (arriving b k key a) c)
+    (entry_in (arriving b k key a) c) loose
+    (ap (λ d. d && stands_in (arriving b k key a) c) (sym (sort_is b key k).dash ∙ n)) f)))
     (subst
     (λ r.
-    LimitView o (X b k key s l) (knowing o s last given) r
-    (want_frames (Entry loose c w fs) NoProperties (terminal_kind k key) (at_of b s (at_kind l k key))))
+    LimitView a.options (arriving b k key a) (beside_at a) r
+    (want_frames (Entry loose c w fs) NoProperties (terminal_kind k key) (arriving b k key a).at))
     (sym
     (ap₂
-    (Chosen (Next b k key s l o last given loose (Entry loose c w fs))
-    (NodeOf b k key s l o last given NoProperties (Entry loose c w fs)) UnexpectedEofBlockSequence
-    (X b k key s l))
-    (ap (λ d. d && is_in_column (token_column (token_of b (at_kind l k key))) (one_less c)) n)
-    (begins_right (token_sort b key k) l.start.place.column c p)))
-    (node_tested b k key s l o last given NoProperties (Entry loose c w fs) (at_entry p h) entry_hole e
+    (Chosen (Next b k key a loose (Entry loose c w fs))
+    (NodeOf b k key a NoProperties (Entry loose c w fs)) UnexpectedEofBlockSequence
+    (arriving b k key a))
+    (ap (λ d. d && is_in_column (token_column (arriving_token b k key a)) (one_less c)) n)
+    (begins_right (token_sort b key k) a.lexeme.start.place.column c p)))
+    (node_tested b k key a NoProperties (Entry loose c w fs) (at_entry p h) entry_hole e
     (joined_none b (terminal_kind k key)) n))
 
 -- a `-` that isn't in the column of its sequence
 entry_dash_other :
-    (b : Bool) (key : Option KeyStart) (s : Scope) (l : lexemes.Lexeme) (o : OptionsData) (last : Mark)
-    (given : List PlainEvent) (loose : Bool) (c : ℕ) (w : Mark) (fs : List OpenFrame) → IsPositive c → Holes fs →
-    stands_in (X b lexemes.Dash key s l) c ≡ false →
-    frame_ends_at (X b lexemes.Dash key s l) (InFrames (Entry loose c w fs)) ≡ false →
-    StepsLimited b lexemes.Dash key s l o last given (Entry loose c w fs)
+    (b : Bool) (key : Option KeyStart) (a : Arrival) (loose : Bool) (c : ℕ) (w : Mark) (fs : List OpenFrame) →
+    IsPositive c → Holes fs → stands_in (arriving b lexemes.Dash key a) c ≡ false →
+    frame_ends_at (arriving b lexemes.Dash key a) (InFrames (Entry loose c w fs)) ≡ false →
+    StepsLimited b lexemes.Dash key a (Entry loose c w fs)
 unfolding in_sequence
-entry_dash_other b key s l o last given loose c w fs p h n f =
+entry_dash_other b key a loose c w fs p h n f =
     subst
-    (LimitView o (X b lexemes.Dash key s l) (knowing o s last given)
-    (take_token o (token_of b (at_kind l lexemes.Dash key))
-    (state_of o (InFrames (Entry loose c w fs)) (knowing o s last given))))
+    (LimitView a.options (arriving b lexemes.Dash key a) (beside_at a)
+    (take_token a.options (arriving_token b lexemes.Dash key a) (parser_at (Entry loose c w fs) a)))
     (sym
-    (stays_taken (frames_empty (Entry loose c w fs) (X b lexemes.Dash key s l))
-    (nothing_frames (X b lexemes.Dash key s l) (Entry loose c w fs)) (InFrames (Entry loose c w fs))
-    (X b lexemes.Dash key s l)
-    (entry_same_empty (stands_left (X b lexemes.Dash key s l) c) (dash_in (X b lexemes.Dash key s l) c)
-    (entry_in (X b lexemes.Dash key s l) c) loose n f)))
+    (stays_taken (frames_empty (Entry loose c w fs) (arriving b lexemes.Dash key a))
+    (nothing_frames (arriving b lexemes.Dash key a) (Entry loose c w fs)) (InFrames (Entry loose c w fs))
+    (arriving b lexemes.Dash key a)
+    (entry_same_empty (stands_left (arriving b lexemes.Dash key a) c) (dash_in (arriving b lexemes.Dash key a) c)
+    (entry_in (arriving b lexemes.Dash key a) c) loose n f)))
     (subst
     (λ r.
-    LimitView o (X b lexemes.Dash key s l) (knowing o s last given) r
+    LimitView a.options (arriving b lexemes.Dash key a) (beside_at a) r
     (want_frames (Entry loose c w fs) NoProperties (terminal_kind lexemes.Dash key)
-    (at_of b s (at_kind l lexemes.Dash key))))
+    (arriving b lexemes.Dash key a).at))
     (sym
     (ap₂
-    (Chosen (Next b lexemes.Dash key s l o last given loose (Entry loose c w fs))
-    (NodeOf b lexemes.Dash key s l o last given NoProperties (Entry loose c w fs))
+    (Chosen (Next b lexemes.Dash key a loose (Entry loose c w fs))
+    (NodeOf b lexemes.Dash key a NoProperties (Entry loose c w fs))
     UnexpectedEofBlockSequence
-    (X b lexemes.Dash key s l))
-    (stands_same b s (at_kind l lexemes.Dash key) c p ∙ n)
-    (begins_right DashToken l.start.place.column c p)))
-    (dash_tested b key s l o last given NoProperties (Entry loose c w fs) (at_entry p h) entry_hole))
+    (arriving b lexemes.Dash key a))
+    (stands_same b a.scope (at_kind a.lexeme lexemes.Dash key) c p ∙ n)
+    (begins_right DashToken a.lexeme.start.place.column c p)))
+    (dash_tested b key a NoProperties (Entry loose c w fs) (at_entry p h) entry_hole))
 
 pub column_is : (k c : ℕ) → IsPositive c → (suc k == c) ≡ true → k ≡ one_less c
 column_is k zero p e = absurd p
@@ -252,72 +237,71 @@ pub same_not_left : (m c : ℕ) → (m == c) ≡ true → nat_lt m c ≡ false
 same_not_left m c e = grind (arith, nat_tests)
 
 entry_dash :
-    (b : Bool) (key : Option KeyStart) (s : Scope) (l : lexemes.Lexeme) (o : OptionsData) (last : Mark)
-    (given : List PlainEvent) (loose : Bool) (c : ℕ) (w : Mark) (fs : List OpenFrame) → IsPositive c → Holes fs →
-    stands_in (X b lexemes.Dash key s l) c ≡ true →
-    nat_le (blocks_open (Entry loose c w fs)) o.block_nesting_limit ≡ true →
-    StepsLimited b lexemes.Dash key s l o last given (Entry loose c w fs)
+    (b : Bool) (key : Option KeyStart) (a : Arrival) (loose : Bool) (c : ℕ) (w : Mark) (fs : List OpenFrame) →
+    IsPositive c → Holes fs → stands_in (arriving b lexemes.Dash key a) c ≡ true →
+    nat_le (blocks_open (Entry loose c w fs)) a.options.block_nesting_limit ≡ true →
+    StepsLimited b lexemes.Dash key a (Entry loose c w fs)
 unfolding in_sequence take_dash
-entry_dash b key s l o last given loose c w fs p h n e =
+entry_dash b key a loose c w fs p h n e =
     subst
-    (LimitView o (X b lexemes.Dash key s l) (knowing o s last given)
-    (take_token o (token_of b (at_kind l lexemes.Dash key))
-    (state_of o (InFrames (Entry loose c w fs)) (knowing o s last given))))
+    (LimitView a.options (arriving b lexemes.Dash key a) (beside_at a)
+    (take_token a.options (arriving_token b lexemes.Dash key a) (parser_at (Entry loose c w fs) a)))
     (sym
-    (goes_entry (X b lexemes.Dash key s l) loose c w fs _ _ true
-    (with_event (pointed SequenceEnds l.start) (finish_frames (X b lexemes.Dash key s l) l.start fs))
-    (entry_is_empty (stands_left (X b lexemes.Dash key s l) c) (dash_in (X b lexemes.Dash key s l) c)
-    (loose && entry_in (X b lexemes.Dash key s l) c) n)
-    (sequence_goes_on loose c (X b lexemes.Dash key s l) n (same_not_left (suc l.start.place.column) c n)) refl
+    (goes_entry (arriving b lexemes.Dash key a) loose c w fs _ _ true
+    (with_event (pointed SequenceEnds a.lexeme.start) (finish_frames (arriving b lexemes.Dash key a) a.lexeme.start fs))
+    (entry_is_empty (stands_left (arriving b lexemes.Dash key a) c) (dash_in (arriving b lexemes.Dash key a) c)
+    (loose && entry_in (arriving b lexemes.Dash key a) c) n)
+    (sequence_goes_on loose c (arriving b lexemes.Dash key a) n (same_not_left (suc a.lexeme.start.place.column) c n))
+    refl
     ∙ ap
     (λ r.
     after_events (null w None ∷ [])
-    (if_gives r ExpectedBlockSequenceEntry (GoesTo (InFrames (Entry loose c l.end fs)) [])))
+    (if_gives r ExpectedBlockSequenceEntry (GoesTo (InFrames (Entry loose c a.lexeme.end fs)) [])))
     n))
     (subst
-    (λ a.
-    LimitView o (X b lexemes.Dash key s l) (knowing o s last given)
-    (Chosen (Next b lexemes.Dash key s l o last given loose (Entry loose c w fs))
-    (NodeOf b lexemes.Dash key s l o last given NoProperties (Entry loose c w fs))
+    (λ t.
+    LimitView a.options (arriving b lexemes.Dash key a) (beside_at a)
+    (Chosen (Next b lexemes.Dash key a loose (Entry loose c w fs))
+    (NodeOf b lexemes.Dash key a NoProperties (Entry loose c w fs))
     UnexpectedEofBlockSequence
-    (X b lexemes.Dash key s l) a (is_right_of (Some l.start.place.column) (Some (one_less c))))
-    (GoesTo (InFrames (Entry loose c l.end fs)) (null w None ∷ [])))
-    (sym (stands_same b s (at_kind l lexemes.Dash key) c p ∙ n))
+    (arriving b lexemes.Dash key a) t (is_right_of (Some a.lexeme.start.place.column) (Some (one_less c))))
+    (GoesTo (InFrames (Entry loose c a.lexeme.end fs)) (null w None ∷ [])))
+    (sym (stands_same b a.scope (at_kind a.lexeme lexemes.Dash key) c p ∙ n))
     (subst
     (λ r.
-    LimitView o (X b lexemes.Dash key s l) (knowing o s last given) r
-    (GoesTo (InFrames (Entry loose c l.end fs)) (null w None ∷ [])))
+    LimitView a.options (arriving b lexemes.Dash key a) (beside_at a) r
+    (GoesTo (InFrames (Entry loose c a.lexeme.end fs)) (null w None ∷ [])))
     (sym
-    (ap₂ (λ k q. Entered o l loose k q) (column_is l.start.place.column c p n)
-    (flushed o w o.max_buffered_comment_events
-    (put (null_at w) (state_of o (InFrames (Entry loose c w fs)) (knowing o s last given)))))) (
+    (ap₂ (λ k q. Entered a.options a.lexeme loose k q) (column_is a.lexeme.start.place.column c p n)
+    (flushed a.options w a.options.max_buffered_comment_events
+    (put (null_at w) (parser_at (Entry loose c w fs) a))))) (
       (w, refl),
       ap (λ f. first_fault f None)
-          (count_flat o.block_nesting_limit (suc (blocks_open fs)) (InFrames (Entry loose c l.end fs)) refl e),
+          (count_flat a.options.block_nesting_limit (suc (blocks_open fs)) (InFrames (Entry loose c a.lexeme.end fs))
+          refl e),
     )))
 
 entry_by :
-    (b : Bool) (k : lexemes.LexemeKind) (key : Option KeyStart) (s : Scope) (l : lexemes.Lexeme) (o : OptionsData)
-    (last : Mark) (given : List PlainEvent) (loose : Bool) (c : ℕ) (w : Mark) (fs : List OpenFrame) (q : Bool) →
-    DashOr b key k → IsPositive c → Holes fs → stands_in (X b k key s l) c ≡ q →
-    frame_ends_at (X b k key s l) (InFrames (Entry loose c w fs)) ≡ false →
-    nat_le (blocks_open (Entry loose c w fs)) o.block_nesting_limit ≡ true →
-    StepsLimited b k key s l o last given (Entry loose c w fs)
-entry_by b k key s l o last given loose c w fs q (another n) p h t f e =
-    entry_other b k key s l o last given loose c w fs p h n f e
-entry_by b lexemes.Dash key s l o last given loose c w fs true a_dash p h t f e =
-    entry_dash b key s l o last given loose c w fs p h t e
-entry_by b lexemes.Dash key s l o last given loose c w fs false a_dash p h t f e =
-    entry_dash_other b key s l o last given loose c w fs p h t f
+    (b : Bool) (k : lexemes.LexemeKind) (key : Option KeyStart) (a : Arrival) (loose : Bool) (c : ℕ) (w : Mark)
+    (fs : List OpenFrame) (q : Bool) → DashOr b key k → IsPositive c → Holes fs → stands_in (arriving b k key a) c ≡ q →
+    frame_ends_at (arriving b k key a) (InFrames (Entry loose c w fs)) ≡ false →
+    nat_le (blocks_open (Entry loose c w fs)) a.options.block_nesting_limit ≡ true →
+    StepsLimited b k key a (Entry loose c w fs)
+entry_by b k key a loose c w fs q (another n) p h t f e =
+    entry_other b k key a loose c w fs p h n f e
+entry_by b lexemes.Dash key a loose c w fs true a_dash p h t f e =
+    entry_dash b key a loose c w fs p h t e
+entry_by b lexemes.Dash key a loose c w fs false a_dash p h t f e =
+    entry_dash_other b key a loose c w fs p h t f
 
 pub entry_steps :
-    (b : Bool) (k : lexemes.LexemeKind) (key : Option KeyStart) (s : Scope) (l : lexemes.Lexeme) (o : OptionsData)
-    (last : Mark) (given : List PlainEvent) (loose : Bool) (c : ℕ) (w : Mark) (fs : List OpenFrame) → IsPositive c →
-    Holes fs → frame_ends_at (X b k key s l) (InFrames (Entry loose c w fs)) ≡ false →
-    nat_le (blocks_open (Entry loose c w fs)) o.block_nesting_limit ≡ true →
-    StepsLimited b k key s l o last given (Entry loose c w fs)
-entry_steps b k key s l o last given loose c w fs p h f e =
-    entry_by b k key s l o last given loose c w fs (stands_in (X b k key s l) c) (dash_or b key k) p h refl f e
+    (b : Bool) (k : lexemes.LexemeKind) (key : Option KeyStart) (a : Arrival) (loose : Bool) (c : ℕ) (w : Mark)
+    (fs : List OpenFrame) → IsPositive c →
+    Holes fs → frame_ends_at (arriving b k key a) (InFrames (Entry loose c w fs)) ≡ false →
+    nat_le (blocks_open (Entry loose c w fs)) a.options.block_nesting_limit ≡ true →
+    StepsLimited b k key a (Entry loose c w fs)
+entry_steps b k key a loose c w fs p h f e =
+    entry_by b k key a loose c w fs (stands_in (arriving b k key a) c) (dash_or b key k) p h refl f e
 
 -- ---- behind an entry
 
@@ -331,83 +315,81 @@ no_entry Dash i loose c fs e = cc (e)
 no_entry kind i loose c fs e = refl
 
 past_other :
-    (b : Bool) (k : lexemes.LexemeKind) (key : Option KeyStart) (s : Scope) (l : lexemes.Lexeme) (o : OptionsData)
-    (last : Mark) (given : List PlainEvent) (loose : Bool) (c : ℕ) (fs : List OpenFrame) →
-    is_dash_token (token_sort b key k) ≡ false → sequence_over loose c (X b k key s l) ≡ false →
-    StepsLimited b k key s l o last given (Past loose c fs)
+    (b : Bool) (k : lexemes.LexemeKind) (key : Option KeyStart) (a : Arrival) (loose : Bool) (c : ℕ)
+    (fs : List OpenFrame) →
+    is_dash_token (token_sort b key k) ≡ false → sequence_over loose c (arriving b k key a) ≡ false →
+    StepsLimited b k key a (Past loose c fs)
 unfolding in_sequence
-past_other b k key s l o last given loose c fs n f =
+past_other b k key a loose c fs n f =
     subst
-    (LimitView o (X b k key s l) (knowing o s last given)
-    (take_token o (token_of b (at_kind l k key)) (state_of o (InFrames (Past loose c fs)) (knowing o s last given))))
+    (LimitView a.options (arriving b k key a) (beside_at a)
+    (take_token a.options (arriving_token b k key a) (parser_at (Past loose c fs) a)))
     (sym
-    (stays_taken (sequence_over loose c (X b k key s l))
-    (with_event (pointed SequenceEnds l.start) (finish_frames (X b k key s l) l.start fs))
+    (stays_taken (sequence_over loose c (arriving b k key a))
+    (with_event (pointed SequenceEnds a.lexeme.start) (finish_frames (arriving b k key a) a.lexeme.start fs))
     (InFrames (Past loose c fs))
-    (X b k key s l) f
-    ∙ no_entry (terminal_kind k key) (at_of b s (at_kind l k key)) loose c fs (sym (sort_is b key k).dash ∙ n)))
+    (arriving b k key a) f
+    ∙ no_entry (terminal_kind k key) (arriving b k key a).at loose c fs (sym (sort_is b key k).dash ∙ n)))
     (subst
-    (λ a.
-    LimitView o (X b k key s l) (knowing o s last given)
-    (if a then Next b k key s l o last given loose (Past loose c fs)
-    else Err (fault_of ExpectedBlockSequenceEntry (X b k key s l)))
+    (λ t.
+    LimitView a.options (arriving b k key a) (beside_at a)
+    (if t then Next b k key a loose (Past loose c fs)
+    else Err (fault_of ExpectedBlockSequenceEntry (arriving b k key a)))
     (StopsWith ExpectedBlockSequenceEntry))
-    (sym (ap (λ d. d && is_in_column (token_column (token_of b (at_kind l k key))) (one_less c)) n)) refl)
+    (sym (ap (λ d. d && is_in_column (token_column (arriving_token b k key a)) (one_less c)) n)) refl)
 
 past_dash :
-    (b : Bool) (key : Option KeyStart) (s : Scope) (l : lexemes.Lexeme) (o : OptionsData) (last : Mark)
-    (given : List PlainEvent) (loose : Bool) (c : ℕ) (fs : List OpenFrame) (same : Bool) → IsPositive c →
-    (suc l.start.place.column == c) ≡ same → nat_le (blocks_open (Past loose c fs)) o.block_nesting_limit ≡ true →
-    LimitView o (X b lexemes.Dash key s l) (knowing o s last given)
-    (if same then Next b lexemes.Dash key s l o last given loose (Past loose c fs)
-    else Err (fault_of ExpectedBlockSequenceEntry (X b lexemes.Dash key s l)))
-    (if_gives same ExpectedBlockSequenceEntry (GoesTo (InFrames (Entry loose c l.end fs)) []))
+    (b : Bool) (key : Option KeyStart) (a : Arrival) (loose : Bool) (c : ℕ) (fs : List OpenFrame) (same : Bool) →
+    IsPositive c → (suc a.lexeme.start.place.column == c) ≡ same →
+    nat_le (blocks_open (Past loose c fs)) a.options.block_nesting_limit ≡ true →
+    LimitView a.options (arriving b lexemes.Dash key a) (beside_at a)
+    (if same then Next b lexemes.Dash key a loose (Past loose c fs)
+    else Err (fault_of ExpectedBlockSequenceEntry (arriving b lexemes.Dash key a)))
+    (if_gives same ExpectedBlockSequenceEntry (GoesTo (InFrames (Entry loose c a.lexeme.end fs)) []))
 unfolding take_dash
-past_dash b key s l o last given loose c fs true p t e = (
+past_dash b key a loose c fs true p t e = (
   (
-    last,
-    ap (λ k. waits l.end o.max_buffered_comment_events
-        (with_top (machine.BlockSequence k loose) (state_of o (InFrames (Past loose c fs)) (knowing o s last given))))
-        (column_is l.start.place.column c p t),
+    a.last,
+    ap (λ k. waits a.lexeme.end a.options.max_buffered_comment_events
+        (with_top (machine.BlockSequence k loose) (parser_at (Past loose c fs) a)))
+        (column_is a.lexeme.start.place.column c p t),
   ),
   ap (λ f. first_fault f None)
-      (count_flat o.block_nesting_limit (suc (blocks_open fs)) (InFrames (Entry loose c l.end fs)) refl e),
+      (count_flat a.options.block_nesting_limit (suc (blocks_open fs)) (InFrames (Entry loose c a.lexeme.end fs)) refl
+      e),
 )
-past_dash b key s l o last given loose c fs false p t e = refl
+past_dash b key a loose c fs false p t e = refl
 
 past_by :
-    (b : Bool) (k : lexemes.LexemeKind) (key : Option KeyStart) (s : Scope) (l : lexemes.Lexeme) (o : OptionsData)
-    (last : Mark) (given : List PlainEvent) (loose : Bool) (c : ℕ) (fs : List OpenFrame) → DashOr b key k →
-    IsPositive c →
-    sequence_over loose c (X b k key s l) ≡ false →
-    nat_le (blocks_open (Past loose c fs)) o.block_nesting_limit ≡ true →
-    StepsLimited b k key s l o last given (Past loose c fs)
+    (b : Bool) (k : lexemes.LexemeKind) (key : Option KeyStart) (a : Arrival) (loose : Bool) (c : ℕ)
+    (fs : List OpenFrame) → DashOr b key k → IsPositive c → sequence_over loose c (arriving b k key a) ≡ false →
+    nat_le (blocks_open (Past loose c fs)) a.options.block_nesting_limit ≡ true →
+    StepsLimited b k key a (Past loose c fs)
 unfolding in_sequence
-past_by b k key s l o last given loose c fs (another n) p f e = past_other b k key s l o last given loose c fs n f
-past_by b lexemes.Dash key s l o last given loose c fs a_dash p f e =
+past_by b k key a loose c fs (another n) p f e = past_other b k key a loose c fs n f
+past_by b lexemes.Dash key a loose c fs a_dash p f e =
     subst
-    (LimitView o (X b lexemes.Dash key s l) (knowing o s last given)
-    (take_token o (token_of b (at_kind l lexemes.Dash key))
-    (state_of o (InFrames (Past loose c fs)) (knowing o s last given))))
+    (LimitView a.options (arriving b lexemes.Dash key a) (beside_at a)
+    (take_token a.options (arriving_token b lexemes.Dash key a) (parser_at (Past loose c fs) a)))
     (sym
-    (stays_taken (sequence_over loose c (X b lexemes.Dash key s l))
-    (with_event (pointed SequenceEnds l.start) (finish_frames (X b lexemes.Dash key s l) l.start fs))
-    (InFrames (Past loose c fs)) (X b lexemes.Dash key s l) f))
+    (stays_taken (sequence_over loose c (arriving b lexemes.Dash key a))
+    (with_event (pointed SequenceEnds a.lexeme.start) (finish_frames (arriving b lexemes.Dash key a) a.lexeme.start fs))
+    (InFrames (Past loose c fs)) (arriving b lexemes.Dash key a) f))
     (subst
-    (λ a.
-    LimitView o (X b lexemes.Dash key s l) (knowing o s last given)
-    (if a then Next b lexemes.Dash key s l o last given loose (Past loose c fs)
-    else Err (fault_of ExpectedBlockSequenceEntry (X b lexemes.Dash key s l)))
-    (if_gives (stands_in (X b lexemes.Dash key s l) c) ExpectedBlockSequenceEntry
-    (GoesTo (InFrames (Entry loose c l.end fs)) [])))
-    (sym (stands_same b s (at_kind l lexemes.Dash key) c p))
-    (past_dash b key s l o last given loose c fs (stands_in (X b lexemes.Dash key s l) c) p refl e))
+    (λ t.
+    LimitView a.options (arriving b lexemes.Dash key a) (beside_at a)
+    (if t then Next b lexemes.Dash key a loose (Past loose c fs)
+    else Err (fault_of ExpectedBlockSequenceEntry (arriving b lexemes.Dash key a)))
+    (if_gives (stands_in (arriving b lexemes.Dash key a) c) ExpectedBlockSequenceEntry
+    (GoesTo (InFrames (Entry loose c a.lexeme.end fs)) [])))
+    (sym (stands_same b a.scope (at_kind a.lexeme lexemes.Dash key) c p))
+    (past_dash b key a loose c fs (stands_in (arriving b lexemes.Dash key a) c) p refl e))
 
 pub past_steps :
-    (b : Bool) (k : lexemes.LexemeKind) (key : Option KeyStart) (s : Scope) (l : lexemes.Lexeme) (o : OptionsData)
-    (last : Mark) (given : List PlainEvent) (loose : Bool) (c : ℕ) (fs : List OpenFrame) → IsPositive c →
-    frame_ends_at (X b k key s l) (InFrames (Past loose c fs)) ≡ false →
-    nat_le (blocks_open (Past loose c fs)) o.block_nesting_limit ≡ true →
-    StepsLimited b k key s l o last given (Past loose c fs)
-past_steps b k key s l o last given loose c fs p f e =
-    past_by b k key s l o last given loose c fs (dash_or b key k) p f e
+    (b : Bool) (k : lexemes.LexemeKind) (key : Option KeyStart) (a : Arrival) (loose : Bool) (c : ℕ)
+    (fs : List OpenFrame) → IsPositive c →
+    frame_ends_at (arriving b k key a) (InFrames (Past loose c fs)) ≡ false →
+    nat_le (blocks_open (Past loose c fs)) a.options.block_nesting_limit ≡ true →
+    StepsLimited b k key a (Past loose c fs)
+past_steps b k key a loose c fs p f e =
+    past_by b k key a loose c fs (dash_or b key k) p f e

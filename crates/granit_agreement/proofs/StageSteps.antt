@@ -31,7 +31,7 @@ use Rattle.std.specs.Prelude.{nat_le, if◌then◌else◌}
 use Rattle.granit_base.specs.Place.{Mark}
 use Rattle.granit_error.specs.OptionsData.{OptionsData}
 use Rattle.granit_lexemes.specs.Outcome.{Fault}
-use Rattle.granit_lexemes.specs.PlainEvent.{PlainEvent, PlainVersion, event_at}
+use Rattle.granit_lexemes.specs.PlainEvent.{PlainEvent, event_at}
 use Rattle.granit_lexemes.specs.PlainEvent as plain
 use Rattle.granit_machine.specs.Giving.{with_indent}
 use Rattle.granit_lexemes.specs.Lexeme as lexemes
@@ -122,17 +122,21 @@ stays_behind :
 stays_behind true handle prefix kept all e = ap (remembered handle prefix) e
 stays_behind false handle prefix kept all e = e
 
-handle_by :
-    (b : Bool) (handle prefix : List ℕ) (key : Option KeyStart) (s : Scope) (l : lexemes.Lexeme) (o : OptionsData)
-    (v : Option (ℕ × ℕ)) (d : Beside) (known : Option (List ℕ)) → entry_of handle s.pending ≡ known →
-    d.count ≡ s.count → d.handles ≡ ordered s.pending → s.version ≡ v → d.kept ≡ staying o s →
+-- a `%TAG` is taken, by what its handle stands for already
+abbrev HandleNext :
+    Bool → List ℕ → List ℕ → Option KeyStart → Scope → lexemes.Lexeme → OptionsData → Option (ℕ × ℕ) → Beside →
+    Option (List ℕ) → Type 0
+HandleNext b handle prefix key s l o v d known =
     Then b (TagPrefix handle prefix) key s l o v d
     (with_handle o (token_of b (at_kind l (lexemes.Directive (TagPrefix handle prefix)) key))
-    (version_told v) handle prefix known
-    (state_of o (HasDirectives v) d))
-handle_by b handle prefix key s l o v d (Some known) e c h w k =
-    (DuplicateTagDirective, guarded_by o.block_nesting_limit _ _ ∙ ap handle_fault e, refl)
-handle_by b handle prefix key s l o v d None e c h w k = record {
+    (version_told v) handle prefix known (state_of o (HasDirectives v) d))
+
+new_handle :
+    (b : Bool) (handle prefix : List ℕ) (key : Option KeyStart) (s : Scope) (l : lexemes.Lexeme) (o : OptionsData)
+    (v : Option (ℕ × ℕ)) (d : Beside) → entry_of handle s.pending ≡ None →
+    d.count ≡ s.count → d.handles ≡ ordered s.pending → s.version ≡ v → d.kept ≡ staying o s →
+    HandleNext b handle prefix key s l o v d None
+new_handle b handle prefix key s l o v d e c h w k = record {
   beside = record d {
     handles = remembered handle prefix d.handles;
     kept = if o.keep_tags then remembered handle prefix d.kept else d.kept;
@@ -144,6 +148,19 @@ handle_by b handle prefix key s l o v d None e c h w k = record {
   comes = directed;
 }
 
+handle_next :
+    (b : Bool) (handle prefix : List ℕ) (key : Option KeyStart) (s : Scope) (l : lexemes.Lexeme) (o : OptionsData)
+    (v : Option (ℕ × ℕ)) (d : Beside) →
+    d.count ≡ s.count → d.handles ≡ ordered s.pending → s.version ≡ v → d.kept ≡ staying o s →
+    HandleNext b handle prefix key s l o v d (entry_of handle s.pending)
+handle_next b handle prefix key s l o v d c h w k =
+    elim (entry_of handle s.pending) as
+    (λ known. entry_of handle s.pending ≡ known → HandleNext b handle prefix key s l o v d known) [
+      | Some known ↦
+          λ e. (DuplicateTagDirective, guarded_by o.block_nesting_limit _ _ ∙ ap handle_fault e, refl)
+      | None ↦ λ e. new_handle b handle prefix key s l o v d e c h w k
+    ] refl
+
 directive_next :
     (b : Bool) (c : DirectiveKind) (key : Option KeyStart) (s : Scope) (l : lexemes.Lexeme) (o : OptionsData)
     (v : Option (ℕ × ℕ)) (d : Beside) → d.count ≡ s.count → d.handles ≡ ordered s.pending → s.version ≡ v →
@@ -153,14 +170,9 @@ directive_next b (Version major minor) key s l o None d c h w k =
 directive_next b (Version major minor) key s l o (Some v) d c h w k =
     (DuplicateVersionDirective, guarded_by o.block_nesting_limit _ _ ∙ ap (version_fault major) w, refl)
 directive_next b (TagPrefix handle prefix) key s l o v d c h w k =
-    subst
-    (λ q.
-    Then b (TagPrefix handle prefix) key s l o v d
-    (with_handle o (token_of b (at_kind l (lexemes.Directive (TagPrefix handle prefix)) key))
-    (version_told v) handle prefix q
-    (state_of o (HasDirectives v) d)))
+    subst (HandleNext b handle prefix key s l o v d)
     (sym (ap (lookup_text handle) h ∙ found_in_order handle s.pending))
-    (handle_by b handle prefix key s l o v d (entry_of handle s.pending) refl c h w k)
+    (handle_next b handle prefix key s l o v d c h w k)
 directive_next b (Reserved name parameters) key s l o v d c h w k = record {
   beside = d;
   is_seen = refl;
@@ -414,8 +426,15 @@ fresh_other b k key s l o d w n =
     (after_events (BareEvent b k key s l ∷ [])
     (want_frames Root NoProperties (terminal_kind k key) (at_of b s (at_kind l k key))))
     (fresh_by b k key s l o d (begins_node (token_sort b key k)) w refl
-    (root_by b k key s l o (BareAt b k key l).span.end (d.given ++ BareAt b k key l ∷ []) None (dash_or b key k)
-    (none_open o.block_nesting_limit)))
+    (root_by b k key
+    (record {
+      scope = s;
+      lexeme = l;
+      options = o;
+      last = (BareAt b k key l).span.end;
+      given = d.given ++ BareAt b k key l ∷ [];
+    })
+    None (dash_or b key k) (none_open o.block_nesting_limit)))
     (after_step (BareEvent b k key s l ∷ [])
     (want_frames Root NoProperties (terminal_kind k key) (at_of b s (at_kind l k key)))
     (want_stands Root NoProperties (terminal_kind k key) (at_of b s (at_kind l k key)) at_root))

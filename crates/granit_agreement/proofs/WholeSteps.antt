@@ -75,7 +75,8 @@ inner_next b k key s l o st (InFrames gs) d w e g f n q =
     NextView o (X b k key s l) s d.given (take_token o (token_of b (at_kind l k key)) (state_of o (InFrames gs) c))
     (taken (ended_by (X b k key s l) (InFrames gs)) (X b k key s l)))
     (sym q.0)
-    (frame_next b k key s l o d.last d.given gs g f n (kept_closed o.block_nesting_limit st gs w e) q.1 q.2)
+    (frame_next b k key (record { scope = s; lexeme = l; options = o; last = d.last; given = d.given }) gs g f n
+    (kept_closed o.block_nesting_limit st gs w e) q.1 q.2)
 inner_next b k key s l o st IsFresh d w e g f n q = fresh_next b k key s l o d q
 inner_next b k key s l o st (HasDirectives v) d w e g f n q = directed_next b k key s l o v d q
 inner_next b k key s l o st (IsRooted m) d w e g f n q = rooted_next b k key s l o m d q

@@ -35,21 +35,35 @@ looked_led o false c led = led
 
 -- ---- a document is dropped
 
-pub dropping_gives : (o : OptionsData) (stops : Stops) (looked follows : Bool) (c b d e : Calls) (f : Fault)
-    (n : StepState) (es : List PlainEvent) → ReachedByCalls o c → looked_at o looked c ≡ b
-    → IsOpen b → b.between ≡ false
-    → skip_by_turns o b.steps ≡ Failed f n → FaultFits CountsAt o stops n
-    → recover o stops looked c ≡ (Ok follows, d)
-    → CallsGive o d es e → GivesOn o stops n es e
-dropping_gives o stops looked follows c b d e f n es reached at goes between failed counts is gives =
-    let there : Led o b.steps =
-    subst (λ (b : Calls). Led o b.steps) at (looked_led o looked c (reached_led o c reached)) in
-    let led : Led o n = subst (SkipLed o) failed (skip_led o b.steps there) in
-    let same : skipped_by o stops b.fault b.between b.steps ≡ skipped_fault o stops f n =
-    ap₂ (λ (x : Option Fault) (v : Bool). skipped_by o stops x v b.steps) goes.fault between
-    ∙ ap (skipped_to o stops) failed in
-    let g = looked_goes o stops c b d follows looked at goes.over is in
-    fault_gives o stops n d e es led counts g.goes gives f (g.steps ∙ same)
+-- recovery asked where calls led, perhaps behind a look at the next one, drops a document up to a fault and goes on
+pub record DocumentDropped (o : OptionsData) : Type 0 where
+  pub stops : Stops
+  pub looked : Bool
+  pub follows : Bool
+  pub asked : Calls
+  pub seen : Calls
+  pub behind : Calls
+  pub fault : Fault
+  pub stopped : StepState
+  pub at : looked_at o looked asked ≡ seen
+  pub goes : IsOpen seen
+  pub between : seen.between ≡ false
+  pub failed : skip_by_turns o seen.steps ≡ Failed fault stopped
+  pub is : recover o stops looked asked ≡ (Ok follows, behind)
+
+pub dropping_gives : (o : OptionsData) (a : DocumentDropped o) (e : Calls) (es : List PlainEvent)
+    → ReachedByCalls o a.asked → FaultFits CountsAt o a.stops a.stopped → CallsGive o a.behind es e
+    → GivesOn o a.stops a.stopped es e
+dropping_gives o a e es reached counts gives =
+    let there : Led o a.seen.steps =
+    subst (λ (c : Calls). Led o c.steps) a.at (looked_led o a.looked a.asked (reached_led o a.asked reached)) in
+    let led : Led o a.stopped = subst (SkipLed o) a.failed (skip_led o a.seen.steps there) in
+    let same : skipped_by o a.stops a.seen.fault a.seen.between a.seen.steps
+    ≡ skipped_fault o a.stops a.fault a.stopped =
+    ap₂ (λ (x : Option Fault) (v : Bool). skipped_by o a.stops x v a.seen.steps) a.goes.fault a.between
+    ∙ ap (skipped_to o a.stops) a.failed in
+    let g = looked_goes o a.stops a.asked a.seen a.behind a.follows a.looked a.at a.goes.over a.is in
+    fault_gives o a.stops a.stopped a.behind e es led counts g.goes gives a.fault (g.steps ∙ same)
 
 -- ---- as a parser's calls tell
 
@@ -60,11 +74,9 @@ pub onward_gives : (o : OptionsData) (stops : Stops) (looked follows : Bool) (c 
 onward_gives o stops looked follows c d e f es reached lines over fault on is gives =
     recovery_gives o stops looked follows c d e f es reached over fault (fault_counts o stops c.steps on lines) is gives
 
-pub onward_dropping : (o : OptionsData) (stops : Stops) (looked follows : Bool) (c b d e : Calls) (f : Fault)
-    (n : StepState) (es : List PlainEvent) → ReachedByCalls o c → looked_at o looked c ≡ b
-    → IsOpen b → b.between ≡ false → LinesCount b → skip_by_turns o b.steps ≡ Failed f n
-    → FaultFits ComesOnward o stops n → recover o stops looked c ≡ (Ok follows, d) → CallsGive o d es e
-    → GivesOn o stops n es e
-onward_dropping o stops looked follows c b d e f n es reached at goes between lines failed on is gives =
-    dropping_gives o stops looked follows c b d e f n es reached at goes between failed
-    (fault_counts o stops n on (skip_counts o b.steps n f failed lines)) is gives
+pub onward_dropping : (o : OptionsData) (a : DocumentDropped o) (e : Calls) (es : List PlainEvent)
+    → ReachedByCalls o a.asked → LinesCount a.seen → FaultFits ComesOnward o a.stops a.stopped
+    → CallsGive o a.behind es e → GivesOn o a.stops a.stopped es e
+onward_dropping o a e es reached lines on gives =
+    dropping_gives o a e es reached
+    (fault_counts o a.stops a.stopped on (skip_counts o a.seen.steps a.stopped a.fault a.failed lines)) gives

@@ -1,6 +1,6 @@
 -- The gap behind a quoted scalar is refused as the lexemes before it and the text say.
-use Rattle.std.proofs.Common.{◌≡◌, ℕ, suc, ◌==◌, Bool, false, List, [], ◌∷◌, drop, map, None}
-use Rattle.std.proofs.Common.{inl, inr, refl, sym, ap, ◌∙◌}
+use Rattle.std.proofs.Common.{◌≡◌, ℕ, suc, ◌==◌, Bool, false, List, [], ◌∷◌, drop, map, None, inl, inr, refl, sym, ap}
+use Rattle.std.proofs.Common.{◌∙◌}
 use Rattle.std.specs.Bool.{Decides}
 use Rattle.granit_base.specs.Place.{Mark}
 use Rattle.granit_error.specs.FaultKind.{FaultKind}
@@ -133,9 +133,9 @@ module _ (o : OptionsData) (text : List ℕ) (items : List Item) (t at : ReaderS
           (in_front sort s.here (freshened o s).laid).cut ≡ None
       on (in_front_of_lexeme h gap n tabs fits) = refl
 
-  gap_said : (end : Here) (kind : FaultKind) (m : Mark) → GapRefused o end after kind m →
+  pub quoted_gap_said : (end : Here) (kind : FaultKind) (m : Mark) → GapRefused o end after kind m →
       QuotedGapWrong o text (x ∷ ls) end kind m
-  gap_said end kind m p = on p.at (gap_here (λ q. no_prefix q) (λ q. absurd q) p.gap) p.wrong
+  quoted_gap_said end kind m p = on p.at (gap_here (λ q. no_prefix q) (λ q. absurd q) p.gap) p.wrong
     where
       tabbed : {kind : FaultKind} {m : Mark} (h : Here) → GapHere ⊥ end h →
           (next_char h == 0x23) ≡ false → WrongTab o after h kind m → QuotedGapWrong o text (x ∷ ls) end kind m
@@ -149,34 +149,14 @@ module _ (o : OptionsData) (text : List ℕ) (items : List Item) (t at : ReaderS
       on h gap (tab n w) = tabbed h gap n w
       on h gap (cut n f e c) = absurd (let z = sym no_cut ∙ e in cc)
 
-  said_gap : (end : Here) (kind : FaultKind) (m : Mark) → QuotedGapWrong o text (x ∷ ls) end kind m →
+  pub said_quoted_gap : (end : Here) (kind : FaultKind) (m : Mark) → QuotedGapWrong o text (x ∷ ls) end kind m →
       GapRefused o end after kind m
-  said_gap end kind m (in_comment h gap s) =
+  said_quoted_gap end kind m (in_comment h gap s) =
       record { at = h; gap = gap_here (λ q. absurd q) (λ q. no_prefix q) gap; wrong = spoiled s }
-  said_gap end kind m (behind_tab {tab = tabs} h gap n b i) = record {
+  said_quoted_gap end kind m (behind_tab {tab = tabs} h gap n b i) = record {
     at = h;
     gap = gap_here (λ q. absurd q) (λ q. no_prefix q) gap;
     wrong =
         tab n (in_indentation b (λ k. no_key tabs k)
         (tab_back o text (x ∷ ls) after columns.columns inside tabs rolled i));
   }
-
-pub quoted_gap_said : (o : OptionsData) (text : List ℕ) (items : List Item) (t at : ReaderState) (single closes : Bool)
-    (read : QuotedRead) (end : Here) (kind : FaultKind) (m : Mark) → Reached o (reader_start (start_of text)) items t →
-    GapStands o t.here t.laid None at →
-    GapRefused o end (behind_lexeme Adjacent
-    (in_front (Placed (QuoteSign single)) at.here (freshened o at).laid)) kind m →
-    QuotedGapWrong o text (quoted_lexeme_of single closes at.here
-    (in_front (Placed (QuoteSign single)) at.here (freshened o at).laid) read ∷ latest items []) end kind m
-quoted_gap_said o text items t at single closes read end kind m r g p =
-    gap_said o text items t at single closes read r g end kind m p
-
-pub said_quoted_gap : (o : OptionsData) (text : List ℕ) (items : List Item) (t at : ReaderState) (single closes : Bool)
-    (read : QuotedRead) (end : Here) (kind : FaultKind) (m : Mark) → Reached o (reader_start (start_of text)) items t →
-    GapStands o t.here t.laid None at →
-    QuotedGapWrong o text (quoted_lexeme_of single closes at.here
-    (in_front (Placed (QuoteSign single)) at.here (freshened o at).laid) read ∷ latest items []) end kind m →
-    GapRefused o end (behind_lexeme Adjacent
-    (in_front (Placed (QuoteSign single)) at.here (freshened o at).laid)) kind m
-said_quoted_gap o text items t at single closes read end kind m r g p =
-    said_gap o text items t at single closes read r g end kind m p

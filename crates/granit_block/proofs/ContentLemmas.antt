@@ -149,11 +149,11 @@ text_ends chomping column shown text whole s clear o e c u =
 -- ---- the first lines
 
 pub content_at : (literal : Bool) (chomping : Chomping) (broken : Bool) (block : Option ℕ) (column : ℕ) (start : Mark)
-    (k : ℕ) (h : Here) (clear met between : Bool) → is_clear h ≡ clear → (text_len h == 0) ≡ met
+    (k : ℕ) (h : Here) {clear met between : Bool} → is_clear h ≡ clear → (text_len h == 0) ≡ met
     → is_between block column h ≡ between
     → content_lines literal chomping broken block column start (line_feeds k) h
     ≡ content_on literal chomping broken column start k h clear met between
-content_at literal chomping broken block column start k h clear met between c m b =
+content_at literal chomping broken block column start k h {clear} {met} c m b =
     content_lines_is literal chomping broken block column start k h
     ∙ ap₂ (λ (x y : Bool). content_on literal chomping broken column start k h x y (is_between block column h)) c m
     ∙ ap (content_on literal chomping broken column start k h clear met) b

@@ -1,8 +1,8 @@
 -- An entry of a block sequence, and a pair of a block mapping, are read.
 use Rattle.granit_lexemes.specs.Lexeme as lexemes
 use Rattle.granit_machine.specs.LexemeSort as sorts
-use Rattle.std.proofs.Common.{Bool, List, [], ap, arith, length, refl, subst, suc, sym, true, ℕ, ◌++◌, ◌+◌, ◌==◌}
-use Rattle.std.proofs.Common.{◌∙◌, ◌∷◌, ◌≡◌, ◌≤◌}
+use Rattle.std.proofs.Common.{Bool, List, [], ap, arith, length, refl, subst, suc, sym, true, ℕ, ◌++◌, ◌+◌, ◌==◌, ◌∙◌}
+use Rattle.std.proofs.Common.{◌∷◌, ◌≡◌, ◌≤◌}
 use Rattle.std.proofs.lemmas.Bool.Decides.{nat_tests}
 use Rattle.std.specs.Prelude.{None, Some}
 use Rattle.granit_base.specs.Place.{Mark}
@@ -10,7 +10,7 @@ use Rattle.granit_block_layout.proofs.Columns.{Enters, again, up_self}
 use Rattle.granit_block_layout.proofs.Fronts.{block_pair, open_behind, open_gap, open_starts, open_text, opening}
 use Rattle.granit_block_layout.proofs.Lines.{indent_front}
 use Rattle.granit_block_layout.proofs.Nodes.{Closes, NodeRead}
-use Rattle.granit_block_layout.proofs.Passing.{Follows, before, passage_one, right_of, value_in}
+use Rattle.granit_block_layout.proofs.Passing.{Follows, before, right_of, value_in}
 use Rattle.granit_block_layout.proofs.Ready.{Begun, Ready, bound, leads}
 use Rattle.granit_block_layout.proofs.Signs.{takes_colon, takes_dash, takes_question}
 use Rattle.granit_block_layout.proofs.Taking.{reads_one}
@@ -18,7 +18,7 @@ use Rattle.granit_block_layout.proofs.Telling.{tree_tells}
 use Rattle.granit_block_layout.specs.Alike.{kinds_of}
 use Rattle.granit_canonical.proofs.Known.{Knows, knows_tree}
 use Rattle.granit_canonical.proofs.Nodes.{colon_starts, dash_starts, question_starts}
-use Rattle.granit_canonical.proofs.Passing.{Passage, passage_then, place_in}
+use Rattle.granit_canonical.proofs.Passing.{Passage, passage_one, passage_then, place_in}
 use Rattle.granit_canonical.proofs.Places.{Starts}
 use Rattle.granit_canonical.specs.Canonical.{Anchors, past_tree, spot}
 use Rattle.granit_error.specs.OptionsData.{OptionsData}
@@ -31,7 +31,6 @@ use Rattle.granit_language.specs.Terminal.{At, Colon, Dash, Question, Terminal, 
 use Rattle.granit_language.specs.TreeEvents.{TreeEvent, node_events, pair_events}
 use Rattle.granit_language.specs.Within.{node_within, pair_within}
 use Rattle.granit_language.specs.Yield.{spell, spell_pair}
-use Rattle.granit_lexemes.specs.Lexeme.{Lexeme, LexemeKind}
 use Rattle.granit_machine.specs.ReaderState.{ReaderState}
 use Rattle.granit_model.specs.Tree.{PlainTree, behind_tree, tree_depth}
 
@@ -105,8 +104,7 @@ module _ (o : OptionsData) (x : List ℕ) where
       q.ready in
       let i = place_in a q.lexeme in
       let column = q.column in
-      let first = passage_one o x [] (c ∷ cs) (Begun c) w lexemes.Dash from (open_text d t rest) s a a q refl refl
-      refl in
+      let first = passage_one o lexemes.Dash s a a q.read refl refl refl in
       record {
         after = n.after;
         left = n.left;
@@ -165,10 +163,8 @@ module _ (o : OptionsData) (x : List ℕ) where
       let j = place_in b m.lexeme in
       let in_key = q.column in
       let in_colon = m.column in
-      let first = passage_one o x [] (c ∷ cs) (Begun c) kw lexemes.Question key_from (open_text d k behind_key) s a a q
-      refl refl refl in
-      let third = passage_one o x [] (c ∷ cs) (Begun c) vw lexemes.Colon value_from (open_text d v rest) kn.after b b m
-      refl refl refl in
+      let first = passage_one o lexemes.Question s a a q.read refl refl refl in
+      let third = passage_one o lexemes.Colon kn.after b b m.read refl refl refl in
       let asked = λ (more : List Terminal). terminal Question i ∷ more in
       let parted = λ (more : List Terminal). terminal (Colon None) j ∷ more in
       let rear = passage_then o kn.after m.after vn.after b b z parted (spell vn.node) third vn.passage in

@@ -3,8 +3,8 @@ use Rattle.granit_language.specs.Node as nodes
 use Rattle.granit_lexemes.specs.Lexeme as lexemes
 use Rattle.granit_lexemes.specs.PlainEvent as plain
 use Rattle.granit_machine.specs.LexemeSort as sorts
-use Rattle.std.proofs.Common.{Bool, List, Option, [], ap, false, length, refl, subst, suc, true, zero, ℕ}
-use Rattle.std.proofs.Common.{◌++◌, ◌<◌, ◌∙◌, ◌∷◌, ◌≡◌, ◌≢◌}
+use Rattle.std.proofs.Common.{Bool, List, Option, [], ap, false, length, refl, subst, suc, true, zero, ℕ, ◌++◌, ◌<◌}
+use Rattle.std.proofs.Common.{◌∙◌, ◌∷◌, ◌≡◌, ◌≢◌}
 use Rattle.std.specs.Prelude.{IfSome, None, Some, if◌then◌else◌}
 use Rattle.std.specs.Str.{encode_utf8_all}
 use lib.Utf8.{scalars}
@@ -13,10 +13,9 @@ use Rattle.granit_base.specs.declared.style.ScalarStyle.TheVariants.{DoubleQuote
 use Rattle.granit_block_layout.proofs.Empties.{takes_closer, takes_opener}
 use Rattle.granit_block_layout.proofs.Fronts.{front_behind, front_text, inline_front}
 use Rattle.granit_block_layout.proofs.Names.{takes_alias, takes_anchor, takes_tag}
-use Rattle.granit_block_layout.proofs.Passing.{BlockRoom, Follows, before, part_in, passage_one, room_on}
+use Rattle.granit_block_layout.proofs.Passing.{BlockRoom, Follows, before, part_in, room_on}
 use Rattle.granit_block_layout.proofs.Quotes.{takes_quoted}
-use Rattle.granit_block_layout.proofs.Ready.{Begun, Behind, OnLine, Ready, Where, bound, fed_to, leads, spaced}
-use Rattle.granit_block_layout.proofs.Ready.{up_to}
+use Rattle.granit_block_layout.proofs.Ready.{Begun, Behind, OnLine, Ready, Where, bound, fed_to, leads, spaced, up_to}
 use Rattle.granit_block_layout.proofs.Taking.{OneRead, reads_one}
 use Rattle.granit_block_layout.proofs.Telling.{alias_kind, kinds_append, node_tells, start_tells}
 use Rattle.granit_block_layout.specs.Alike.{kinds_of, unstyled}
@@ -24,7 +23,7 @@ use Rattle.granit_canonical.proofs.Flows.{ending, opening}
 use Rattle.granit_canonical.proofs.Names.{tag_source}
 use Rattle.granit_canonical.proofs.Nodes.{anchor_starts, closer_starts, opener_starts, quote_starts, star_starts}
 use Rattle.granit_canonical.proofs.Nodes.{tag_starts}
-use Rattle.granit_canonical.proofs.Passing.{Passage, passage_none, passage_then, place_in}
+use Rattle.granit_canonical.proofs.Passing.{Passage, passage_none, passage_one, passage_then, place_in}
 use Rattle.granit_canonical.proofs.Places.{Starts}
 use Rattle.granit_canonical.proofs.Spelling.{CanStand}
 use Rattle.granit_canonical.specs.Canonical.{Anchors, between_quotes, lent_name, past_anchor}
@@ -154,8 +153,7 @@ module _ (o : OptionsData) (x : List ℕ) where
       let q = anchor_one b cs own name s m r in record {
         after = q.after;
         properties = One (Anchor (lent_name name)) (place_in a q.lexeme);
-        passage = passage_one o x [] cs (OnLine (bound cs)) (leads b (bound cs)) (lexemes.Anchor (lent_name name))
-            (0x26 ∷ (name ++ (g ++ own))) own s a (past_anchor (Some name) a) q refl refl refl;
+        passage = passage_one o (lexemes.Anchor (lent_name name)) s a (past_anchor (Some name) a) q.read refl refl refl;
         ready = q.ready;
         placed = λ room p. part_in p (Property (Anchor (lent_name name))) a q.lexeme q.column;
         behind = λ room p. room_on p;
@@ -167,8 +165,7 @@ module _ (o : OptionsData) (x : List ℕ) where
       let q = tag_one b cs own name s n w r in record {
         after = q.after;
         properties = One (Tag [] name) (place_in a q.lexeme);
-        passage = passage_one o x [] cs (OnLine (bound cs)) (leads b (bound cs)) (lexemes.Tag [] name)
-            (tag_source name ++ (g ++ own)) own s a a q refl refl refl;
+        passage = passage_one o (lexemes.Tag [] name) s a a q.read refl refl refl;
         ready = q.ready;
         placed = λ room p. part_in p (Property (Tag [] name)) a q.lexeme q.column;
         behind = λ room p. room_on p;
@@ -178,10 +175,9 @@ module _ (o : OptionsData) (x : List ℕ) where
       let middle = 0x26 ∷ (anchor ++ (g ++ own)) in
       let tagged = tag_one spaced cs middle name s n w r in
       let q = anchor_one b cs own anchor tagged.after m tagged.ready in
-      let first = passage_one o x [] cs (OnLine (bound cs)) (OnLine (bound cs)) (lexemes.Tag [] name)
-      (tag_source name ++ 0x20 ∷ middle) middle s a a tagged refl refl refl in
-      let second = passage_one o x [] cs (OnLine (bound cs)) (leads b (bound cs)) (lexemes.Anchor (lent_name anchor))
-      middle own tagged.after a (past_anchor (Some anchor) a) q refl refl refl in
+      let first = passage_one o (lexemes.Tag [] name) s a a tagged.read refl refl refl in
+      let second = passage_one o (lexemes.Anchor (lent_name anchor)) tagged.after a (past_anchor (Some anchor) a) q.read
+      refl refl refl in
       let i = place_in a tagged.lexeme in
       let j = place_in a q.lexeme in record {
         after = q.after;
@@ -216,8 +212,7 @@ module _ (o : OptionsData) (x : List ℕ) where
         after = q.after;
         left = cs;
         node = AliasNode (lent_name name) (place_in a q.lexeme);
-        passage = passage_one o x [] cs (OnLine (bound cs)) (Begun (before reach)) (lexemes.Alias (lent_name name)) from
-            next s a a q refl refl
+        passage = passage_one o (lexemes.Alias (lent_name name)) s a a q.read refl refl
             (ap (alias_fault o.emit_unresolved_aliases) known ∙ always o.emit_unresolved_aliases);
         ready = q.ready;
         closes = closes_none reach cs;
@@ -247,8 +242,8 @@ module _ (o : OptionsData) (x : List ℕ) where
       (λ t b. takes_quoted o x (before reach) cs chars next t st w b) in
       let b = past_anchor p.anchor a in
       let i = place_in b q.lexeme in
-      let second = passage_one o x [] cs (OnLine (bound cs)) (Begun (before reach))
-      (lexemes.Scalar DoubleQuoted (between_quotes chars)) own next r.after b b q refl refl refl in
+      let second = passage_one o (lexemes.Scalar DoubleQuoted (between_quotes chars)) r.after b b q.read refl refl refl
+      in
       let kind = plain.Scalar (between_quotes chars) DoubleQuoted in
       record {
         after = q.after;
@@ -290,10 +285,8 @@ module _ (o : OptionsData) (x : List ℕ) where
       let b = past_anchor p.anchor a in
       let i = place_in b q.lexeme in
       let e = place_in b z.lexeme in
-      let second = passage_one o x (d ∷ []) cs (OnLine (bound cs)) (OnLine (bound cs)) (lexemes.Open d) own closing
-      r.after b b q refl refl refl in
-      let third = passage_one o x [] cs (OnLine (bound cs)) (Begun (before reach)) (lexemes.Close d) closing next
-      q.after b b z refl refl refl in
+      let second = passage_one o (lexemes.Open d) r.after b b q.read refl refl refl in
+      let third = passage_one o (lexemes.Close d) q.after b b z.read refl refl refl in
       let opened_by = λ (more : List Terminal). terminal (Part (Open d)) i ∷ more in
       let closed_by = λ (more : List Terminal). terminal (Close d) e ∷ more in
       let rear = passage_then o r.after q.after z.after b b b opened_by closed_by second third in

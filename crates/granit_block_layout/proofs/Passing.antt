@@ -1,37 +1,12 @@
--- A lexeme of block text as the grammar sees it, and where nodes of block text may stand.
-use Rattle.std.proofs.Common.{List, [], ap, ap₂, arith, false, suc, sym, true, zero, ℕ, ◌∙◌, ◌∷◌, ◌≡◌, ◌≤◌}
+-- Where nodes of block text may stand, and what follows them.
+use Rattle.std.proofs.Common.{List, arith, suc, true, zero, ℕ, ◌≡◌, ◌≤◌}
 use Rattle.std.proofs.lemmas.Bool.Decides.{nat_tests}
-use Rattle.std.specs.Prelude.{None, nat_lt}
-use Rattle.granit_block_layout.proofs.Ready.{Where}
-use Rattle.granit_block_layout.proofs.Taking.{OneRead}
-use Rattle.granit_canonical.proofs.Passing.{Passage, and_lexeme, no_lexeme, place_in, scope_of}
+use Rattle.std.specs.Prelude.{nat_lt}
+use Rattle.granit_canonical.proofs.Passing.{place_in}
 use Rattle.granit_canonical.specs.Canonical.{Anchors, spot}
-use Rattle.granit_error.specs.OptionsData.{OptionsData}
 use Rattle.granit_language.specs.Room.{PartFits, RightOf, Room, ValueIn, behind_property, right_fits}
-use Rattle.granit_language.specs.Scoping.{next_scope, scope_fault}
-use Rattle.granit_language.specs.Seen.{terminal_kind}
-use Rattle.granit_language.specs.Terminal.{PartKind, Terminal, TerminalKind, reach_of, stands_left, terminal}
-use Rattle.granit_lexemes.specs.Lexeme.{Lexeme, LexemeKind}
-use Rattle.granit_lexemes.specs.declared.layout.Bracket.{Bracket}
-use Rattle.granit_machine.specs.Reader.{is_end_kind}
-use Rattle.granit_machine.specs.ReaderState.{ReaderState}
-
--- one lexeme
-pub passage_one : (o : OptionsData) (x : List ℕ) (bs : List Bracket) (cs : List ℕ) (v w : Where) (kind : LexemeKind)
-    (from next : List ℕ) (s : ReaderState) (a b : Anchors) → (r : OneRead o x bs cs v w kind from next s)
-    → is_end_kind kind ≡ false → next_scope (terminal_kind kind None) (scope_of a) ≡ scope_of b
-    → scope_fault o (terminal_kind kind None) (scope_of a) ≡ None
-    → Passage o s a b (λ more. terminal (terminal_kind kind None) (place_in a r.lexeme) ∷ more) r.after
-passage_one o x bs cs v w kind from next s a b r n p q =
-    let l = r.lexeme in
-    let same : terminal_kind l.kind l.key ≡ terminal_kind kind None = ap₂ terminal_kind r.kind_is r.key_is in
-    record {
-      lexemes = l ∷ [];
-      lexed = and_lexeme l r.after r.reads (ap is_end_kind r.kind_is ∙ n) r.key_is r.tail_is no_lexeme;
-      scope = ap (λ (k : TerminalKind). next_scope k (scope_of a)) same ∙ p;
-      means = (ap (λ (k : TerminalKind). scope_fault o k (scope_of a)) same ∙ q, tt);
-      spelled = λ more. ap (λ (k : TerminalKind). terminal k (place_in a l) ∷ more) (sym same);
-    }
+use Rattle.granit_language.specs.Terminal.{PartKind, Terminal, reach_of, stands_left}
+use Rattle.granit_lexemes.specs.Lexeme.{Lexeme}
 
 -- ---- rooms
 

@@ -2,15 +2,16 @@
 use Rattle.std.proofs.Common.{List, Option, [], ap, refl, subst, sym, ℕ, ◌==◌, ◌∙◌, ◌∷◌, ◌≡◌}
 use Rattle.std.specs.Prelude.{None, Some}
 use Rattle.granit_base.specs.Place.{Mark, first}
-use Rattle.granit_block_layout.proofs.Ready.{Arrived, InColumn, Ready, Where, fresh_around, lies_column}
-use Rattle.granit_block_layout.proofs.Ready.{lies_fresh, lies_gone, lies_mild, lies_tab}
+use Rattle.granit_block_layout.proofs.Ready.{Arrived, InColumn, Ready, Where, fresh_around, lies_column, lies_fresh}
+use Rattle.granit_block_layout.proofs.Ready.{lies_gone, lies_mild, lies_tab}
 use Rattle.granit_canonical.proofs.Calm.{Mild}
 use Rattle.granit_canonical.proofs.Places.{Starts, gap_stops, gap_to, marked, past_all}
+use Rattle.granit_canonical.proofs.Taking.{LexemeRead}
 use Rattle.granit_canonical.specs.Canonical.{spot}
 use Rattle.granit_error.specs.OptionsData.{OptionsData}
 use Rattle.granit_language.specs.Allowed.{CutFits, MayPrefix, TabsFit}
 use Rattle.granit_language.specs.Before.{freshened}
-use Rattle.granit_language.specs.Reached.{BeginsAt, GivenAt, NoneOverdue, Reads, of_lexeme}
+use Rattle.granit_language.specs.Reached.{BeginsAt, GivenAt, NoneOverdue, of_lexeme}
 use Rattle.granit_language.specs.Standing.{in_front_of_lexeme}
 use Rattle.granit_lexemes.specs.Here.{Here, mark_of}
 use Rattle.granit_lexemes.specs.Lexeme.{Lexeme, LexemeKind, OfLexeme}
@@ -55,12 +56,8 @@ pub record Taken (o : OptionsData) (x : List ℕ) (bs : List Bracket) (cs : List
 -- one read of it, with the gap before it
 pub record OneRead (o : OptionsData) (x : List ℕ) (bs : List Bracket) (cs : List ℕ) (v w : Where) (kind : LexemeKind)
     (from next : List ℕ) (s : ReaderState) : Type 0 where
-  pub lexeme : Lexeme
-  pub after : ReaderState
-  pub reads : Reads o s (OfLexeme lexeme ∷ []) after
-  pub kind_is : lexeme.kind ≡ kind
-  pub key_is : lexeme.key ≡ None
-  pub tail_is : lexeme.tail ≡ None
+  pub read : LexemeRead o kind None s
+  pub open read use *
   pub indent_is : lexeme.indent ≡ None
   pub start_is : lexeme.start ≡ spot x from
   pub column : InColumn v lexeme.start.place.column
@@ -100,24 +97,26 @@ module _ (o : OptionsData) (x : List ℕ) where
       }) in
       let b = k.ready in
       record {
-        lexeme = k.lexeme;
-        after = freshened o k.behind;
-        reads = of_lexeme at k.behind sort
-            (record {
-              gap = in_front_of_lexeme h (record {
-                gap = r.gap;
-                over = gap_to (MayPrefix s.laid) r.gap from s.here r.text r.is_gap;
-                stops = gap_stops (MayPrefix s.laid) from h p.text st;
+        read = record {
+          lexeme = k.lexeme;
+          after = freshened o k.behind;
+          reads = of_lexeme at k.behind sort
+              (record {
+                gap = in_front_of_lexeme h (record {
+                  gap = r.gap;
+                  over = gap_to (MayPrefix s.laid) r.gap from s.here r.text r.is_gap;
+                  stops = gap_stops (MayPrefix s.laid) from h p.text st;
+                })
+                    (ap (λ (l : List ℕ). first l == 0x23) p.text ∙ st.no_comment)
+                    (no_tab_fits o s.laid h (lies_tab v s.laid.key h r.lies)) (no_cut_fits s.laid h r.cut);
+                keys = mild_fits o at (lies_mild v s.laid.key h r.lies);
+                begins = k.begins;
               })
-                  (ap (λ (l : List ℕ). first l == 0x23) p.text ∙ st.no_comment)
-                  (no_tab_fits o s.laid h (lies_tab v s.laid.key h r.lies)) (no_cut_fits s.laid h r.cut);
-              keys = mild_fits o at (lies_mild v s.laid.key h r.lies);
-              begins = k.begins;
-            })
-            k.given (mild_fits o k.behind (lies_mild w k.behind.laid.key (over b.gap k.behind.here) b.lies));
-        kind_is = k.kind_is;
-        key_is = k.key_is;
-        tail_is = k.tail_is;
+              k.given (mild_fits o k.behind (lies_mild w k.behind.laid.key (over b.gap k.behind.here) b.lies));
+          kind_is = k.kind_is;
+          key_is = k.key_is;
+          tail_is = k.tail_is;
+        };
         indent_is = k.indent_is;
         start_is = k.place_is ∙ marked x from h p.held p.text;
         column = at_start v k.lexeme.start (mark_of h) k.place_is (lies_column v s.laid.key h r.lies);

@@ -6,7 +6,7 @@ use Rattle.std.proofs.Math.Nat.{le-max_left, le-max_right}
 use Rattle.std.specs.Prelude.{None, Some}
 use Rattle.granit_block_layout.proofs.Fronts.{open_behind, open_gap, open_text, opening}
 use Rattle.granit_block_layout.proofs.Marks.{takes_end, takes_start}
-use Rattle.granit_block_layout.proofs.Passing.{Follows, passage_one, right_of}
+use Rattle.granit_block_layout.proofs.Passing.{Follows, right_of}
 use Rattle.granit_block_layout.proofs.Ready.{Begun, Ready, leads, none_past, outside}
 use Rattle.granit_block_layout.proofs.Taking.{reads_one}
 use Rattle.granit_block_layout.proofs.Telling.{documents_kinds, documents_tell}
@@ -14,7 +14,7 @@ use Rattle.granit_block_layout.proofs.Trees.{tree_read}
 use Rattle.granit_block_layout.specs.Alike.{kinds_of}
 use Rattle.granit_canonical.proofs.Known.{knows_none}
 use Rattle.granit_canonical.proofs.Nodes.{dash_starts}
-use Rattle.granit_canonical.proofs.Passing.{Passage, passage_none, passage_then, place_in}
+use Rattle.granit_canonical.proofs.Passing.{Passage, passage_none, passage_one, passage_then, place_in}
 use Rattle.granit_canonical.proofs.Places.{Starts, starts_end, starts_held}
 use Rattle.granit_canonical.proofs.Spelling.{CanSpell, CanSpellTrees, documents_spell}
 use Rattle.granit_canonical.proofs.Whole.{BareRead, RootsPlaced, no_anchors, no_version, roots_within, start_behind}
@@ -92,8 +92,7 @@ module _ (o : OptionsData) (x : List ℕ) where
       let n = tree_read o x t [] can fits [] 0 0 rest rest q.after b (omega arith) (omega arith) starts refl
       (knows_none a.count) (omega (arith, deep)) flat q.ready in
       let i = place_in a q.lexeme in
-      let first = passage_one o x [] [] (Begun 0) w lexemes.DocumentStart from (open_text 0 t rest) d.after a b q refl
-      refl refl in
+      let first = passage_one o lexemes.DocumentStart d.after a b q.read refl refl refl in
       let marked_by = λ (more : List Terminal). terminal DocumentStart i ∷ more in
       let rear = passage_then o d.after q.after n.after a b c marked_by (spell n.node) first n.passage in
       let start = d.placed (terminal DocumentStart i)

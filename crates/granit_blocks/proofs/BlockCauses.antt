@@ -165,8 +165,9 @@ lines_refused literal header broken block start j c = block_lines_is literal hea
 
 -- ---- in the lines
 
-module _ (literal : Bool) (block : Option ℕ) (h : Here) (header : BlockHeader) (noted : Option CommentRead)
-    (broken : Bool) (column k : ℕ) (place : Here) (front : BlockFront block h header noted broken column k place) where
+-- everything here is known by what stands in front of the content
+module _ (literal : Bool) {block : Option ℕ} {h : Here} {header : BlockHeader} {noted : Option CommentRead}
+    {broken : Bool} {column k : ℕ} {place : Here} (front : BlockFront block h header noted broken column k place) where
   abbrev pub chomping : Chomping
   chomping = chomping_of header.chomping
 
@@ -329,16 +330,16 @@ begun_value : (literal : Bool) (chomping : Chomping) (block : Option ℕ) {colum
 begun_value literal chomping block {t = t} {c = c} no_line e = absurd (let n = kept_printable chomping t in cc)
 begun_value literal chomping block (more_lines l b ls) e = begun block l
 
-before_fails : (literal : Bool) (block : Option ℕ) (h : Here) (header : BlockHeader) (noted : Option CommentRead)
-    (broken : Bool) (column k : ℕ) (place : Here) (front : BlockFront block h header noted broken column k place)
+before_fails : (literal : Bool) {block : Option ℕ} {h : Here} {header : BlockHeader} {noted : Option CommentRead}
+    {broken : Bool} {column k : ℕ} {place : Here} (front : BlockFront block h header noted broken column k place)
     {after : Here} {lines : List BlockLine} {t : ℕ}
     → ContentLines column k place after lines t → is_clear after ≡ false
     → block_lines literal header broken block (mark_of h) front.first_line ≡ Err (strange_at after)
-before_fails literal block h header noted broken column k place front no_line c = place_refused literal block h header
-    noted broken column k place front c
-before_fails literal block h header noted broken column k place front {after = after} {t = t} (more_lines l b ls) c =
+before_fails literal front no_line c = place_refused literal front c
+before_fails literal {block} {h} {header} {column = column} {place = place} front {after = after} {t = t}
+    (more_lines l b ls) c =
     let s = begun block l in
-    by_loop literal block h header noted broken column k place front s.clear s.some s.right
+    by_loop literal front s.clear s.some s.right
     ∙ then_refused (chomping_of header.chomping) column (mark_of place) _ after c
     (lines_into literal (strange_at after) after (more_lines l b ls)
     (λ before was. strange_base_if literal column (state_at after t before was) c (is_out column after) refl) None
@@ -375,34 +376,28 @@ cause_refused literal block h (first_tab {header = header} {j = j} {broken = bro
     (block_lines_is literal header broken block (mark_of h) j
     ∙ ap₂ (lines_on literal header broken block (mark_of h) j) (printable_clear j (ap is_printable y ∙ tab_printable))
     (ap (λ (c : ℕ). c == 0x09) y))
-cause_refused literal block h (wrong_column {header = header} {noted = noted} {broken = broken} {column = column}
-    {k = k} {place = place} front c n y) =
-    refused_in literal block h header noted broken column k place front
-    (fault_at InvalidBlockScalarIndent (mark_of place))
-    (wrong_place literal block h header noted broken column k place front c n y)
-cause_refused literal block h (before_content {header = header} {noted = noted} {broken = broken} {column = column}
-    {k = k} {place = place} {after = after} front ls c) =
-    refused_in literal block h header noted broken column k place front (strange_at after)
-    (before_fails literal block h header noted broken column k place front ls c)
-cause_refused literal block h (in_line {header = header} {noted = noted} {broken = broken} {column = column} {k = k}
-    {t = t} {place = place} {after = after} {end = end} front ls i c) =
+cause_refused literal block h (wrong_column {place = place} front c n y) =
+    refused_in literal front (fault_at InvalidBlockScalarIndent (mark_of place)) (wrong_place literal front c n y)
+cause_refused literal block h (before_content {after = after} front ls c) =
+    refused_in literal front (strange_at after) (before_fails literal front ls c)
+cause_refused literal block h (in_line {header = header} {column = column} {t = t} {place = place} {after = after}
+    {end = end} front ls i c) =
     let s = begun_line block ls i in
-    refused_in literal block h header noted broken column k place front (strange_at end) (
-    by_loop literal block h header noted broken column k place front s.clear s.some s.right
+    refused_in literal front (strange_at end) (
+    by_loop literal front s.clear s.some s.right
     ∙ then_refused (chomping_of header.chomping) column (mark_of place) _ end c
     (lines_into literal (strange_at end) end ls (λ before was. inside_base literal (state_at after t before was) i c)
     None false))
-cause_refused literal block h (in_value {header = header} {noted = noted} {broken = broken} {column = column} {k = k}
-    {t = t} {c = d} {place = place} {after = after} {lines = lines} front ls out c e) =
+cause_refused literal block h (in_value {header = header} {column = column} {k = k} {t = t} {c = d} {place = place}
+    {after = after} {lines = lines} front ls out c e) =
     let chomping = chomping_of header.chomping in
     let s = begun_value literal chomping block ls e in
     let r = lines_run literal ls out c None false in
     let w : whole_of chomping (content_text literal None lines) r.last
     ≡ block_value literal chomping lines t = value_is literal chomping place k lines t
     (content_text literal None lines) r.last refl r.empty_is r.ended in
-    refused_in literal block h header noted broken column k place front
-    (fault_at (UnexpectedCharacter d) (mark_of place)) (
-    by_loop literal block h header noted broken column k place front s.clear s.some s.right
+    refused_in literal front (fault_at (UnexpectedCharacter d) (mark_of place)) (
+    by_loop literal front s.clear s.some s.right
     ∙ ap (then_behind chomping column (mark_of place)) r.gives
     ∙ behind_block_is chomping column (mark_of place) (content_text literal None lines) r.last
     ∙ ap₂ (λ (x : List ℕ) (g : Here). ended_on column (mark_of place) x g (is_clear g) (unprintable x)) w r.here

@@ -3,16 +3,14 @@ use Rattle.granit_language.specs.Node as nodes
 use Rattle.granit_lexemes.specs.Lexeme as lexemes
 use Rattle.granit_lexemes.specs.PlainEvent as plain
 use Rattle.granit_machine.specs.LexemeSort as sorts
-use Rattle.std.proofs.Common.{Bool, List, Option, ap, ap₂, drop, false, length, refl, true, ℕ, ◌++◌, ◌<◌, ◌∙◌, ◌∷◌}
-use Rattle.std.proofs.Common.{◌≡◌}
+use Rattle.std.proofs.Common.{Bool, List, Option, ap, ap₂, drop, false, length, refl, true, ℕ, ◌++◌, ◌<◌, ◌∙◌, ◌∷◌, ◌≡◌}
 use Rattle.std.specs.Prelude.{None}
 use Rattle.granit_base.specs.Place.{Mark}
 use Rattle.granit_base.specs.declared.style.StructureStyle.TheVariants.{Flow}
 use Rattle.granit_canonical.proofs.Calm.{Calm, Fine, fine_as}
 use Rattle.granit_canonical.proofs.Nodes.{closer_starts, end_of_source, opener_starts, properties_read}
-use Rattle.granit_canonical.proofs.Nodes.{start_of_source}
 use Rattle.granit_canonical.proofs.Passing.{IsPlain, Passage, node_is_told, passage_none, passage_one, passage_then}
-use Rattle.granit_canonical.proofs.Passing.{place_in, plain_fits}
+use Rattle.granit_canonical.proofs.Passing.{place_in, plain_fits, shown_told}
 use Rattle.granit_canonical.proofs.Places.{Before, Parts, Starts}
 use Rattle.granit_canonical.proofs.Signs.{closes_bracket, opens_bracket}
 use Rattle.granit_canonical.proofs.Spelling.{CanStand}
@@ -118,8 +116,8 @@ module _ (o : OptionsData) (x : List ℕ) where
       k.calm (closer_starts b to) (λ t h e c f. closes_bracket o x bs b g rest t parts st h e c) in
       let i = place_in m q.lexeme in
       let e = place_in c z.lexeme in
-      let first = passage_one o x (b ∷ bs) (lexemes.Open b) own inside inside true r.after m m q refl refl refl in
-      let second = passage_one o x bs (lexemes.Close b) closing to rest false k.after c c z refl refl refl in
+      let first = passage_one o (lexemes.Open b) r.after m m q.read refl refl refl in
+      let second = passage_one o (lexemes.Close b) k.after c c z.read refl refl refl in
       let opened_by = λ (more : List Terminal). terminal (Part (Open b)) i ∷ more in
       let closed_by = λ (more : List Terminal). terminal (Close b) e ∷ more in
       let between = λ (more : List Terminal). spell_flow k.lead (spell_last k.last more) in
@@ -147,9 +145,9 @@ module _ (o : OptionsData) (x : List ℕ) where
             ∙ ap tell (end_told o b e (spot x closing) (spot x to) (events_told o more) z.start_is
             (end_of_source x closing to z.lexeme.shown z.shown_is)))
             ∙ start_told o b r.properties i (tell (event_at (ending b) (stretch x closing to) ∷ events_told o more))
-            ∙ node_is_told o x a p r.properties (opening b) own inside q.lexeme.shown.start q.lexeme.shown.end None
-            r.anchor_is r.tag_is (start_of_source x own inside q.lexeme.shown q.shown_is)
-            (end_of_source x own inside q.lexeme.shown q.shown_is) refl
+            ∙ shown_told o r.properties (opening b) q.lexeme.shown (stretch x own inside) None q.shown_is refl
+            (tell (event_at (ending b) (stretch x closing to) ∷ events_told o more))
+            ∙ node_is_told o x a p r.properties (opening b) own inside r.anchor_is r.tag_is
             (tell (event_at (ending b) (stretch x closing to) ∷ events_told o more));
         ends = end_of_source x closing to z.lexeme.shown z.shown_is;
       }

@@ -13,7 +13,7 @@ use Rattle.granit_canonical.proofs.Calm.{Calm, Fine, fine_as, fine_if}
 use Rattle.granit_canonical.proofs.Fronts.{tag_bytes_front}
 use Rattle.granit_canonical.proofs.Names.{EndsName, tag_source, takes_alias, takes_anchor, takes_tag}
 use Rattle.granit_canonical.proofs.Passing.{IsPlain, Passage, node_is_told, passage_none, passage_one, passage_then}
-use Rattle.granit_canonical.proofs.Passing.{place_in, plain_behind, plain_fits}
+use Rattle.granit_canonical.proofs.Passing.{place_in, plain_behind, plain_fits, shown_told}
 use Rattle.granit_canonical.proofs.Places.{Before, Starts}
 use Rattle.granit_canonical.proofs.Quotes.{takes_quoted}
 use Rattle.granit_canonical.proofs.Spelling.{CanStand}
@@ -42,8 +42,7 @@ use Rattle.granit_machine.specs.Laid.{is_opener}
 use Rattle.granit_machine.specs.LexemeSort.{AliasSign, AnchorSign, QuoteSign, TagSign}
 use Rattle.granit_machine.specs.ReaderState.{ReaderState}
 use Rattle.granit_model.specs.Characters.{AreCharacters}
-use Rattle.granit_model.specs.FlowText.{anchor_text, properties_text, quoted_characters, tag_bytes, tag_text}
-use Rattle.granit_model.specs.FlowText.{tree_text}
+use Rattle.granit_model.specs.FlowText.{anchor_text, properties_text, quoted_characters, tag_bytes, tag_text, tree_text}
 use Rattle.granit_model.specs.Tree.{AliasOf, IsAnchorName, PlainTree, Properties, ScalarOf}
 
 pub starts_with : (c : ℕ) (rest : List ℕ) → is_gap c ≡ false → (c == 0x23) ≡ false → (c == 0xFEFF) ≡ false
@@ -212,10 +211,7 @@ module _ (o : OptionsData) (x : List ℕ) where
       let r = anchor_one bs own name s b c f m in record {
         after = r.after;
         properties = One (Anchor (lent_name name)) (place_in a r.lexeme);
-        passage = passage_one o x bs (lexemes.Anchor (lent_name name)) (0x26 ∷ (name ++ 0x20 ∷ own)) (0x20 ∷ own) own
-            false
-            s a
-            (past_anchor (Some name) a) r refl refl refl;
+        passage = passage_one o (lexemes.Anchor (lent_name name)) s a (past_anchor (Some name) a) r.read refl refl refl;
         before = r.before;
         calm = r.calm;
         fine = fine_if bs r.after.laid.last r.opener;
@@ -228,8 +224,7 @@ module _ (o : OptionsData) (x : List ℕ) where
       let r = tag_one bs own name s b c f n w in record {
         after = r.after;
         properties = One (Tag [] name) (place_in a r.lexeme);
-        passage = passage_one o x bs (lexemes.Tag [] name) (tag_source name ++ 0x20 ∷ own) (0x20 ∷ own) own false s a
-            a r refl refl refl;
+        passage = passage_one o (lexemes.Tag [] name) s a a r.read refl refl refl;
         before = r.before;
         calm = r.calm;
         fine = fine_if bs r.after.laid.last r.opener;
@@ -242,13 +237,9 @@ module _ (o : OptionsData) (x : List ℕ) where
       let middle = anchor_text (Some anchor) own in
       let r = tag_one bs middle name s b c f n w in
       let q = anchor_one bs own anchor r.after r.before r.calm (fine_if bs r.after.laid.last r.opener) m in
-      let first = passage_one o x bs (lexemes.Tag [] name) (tag_source name ++ 0x20 ∷ middle) (0x20 ∷ middle) middle
-      false s
-      a a r refl refl refl in
-      let second = passage_one o x bs (lexemes.Anchor (lent_name anchor)) (0x26 ∷ (anchor ++ 0x20 ∷ own)) (0x20 ∷ own)
-      own
-      false
-      r.after a (past_anchor (Some anchor) a) q refl refl refl in
+      let first = passage_one o (lexemes.Tag [] name) s a a r.read refl refl refl in
+      let second = passage_one o (lexemes.Anchor (lent_name anchor)) r.after a (past_anchor (Some anchor) a) q.read refl
+      refl refl in
       let i = place_in a r.lexeme in
       let j = place_in a q.lexeme in record {
         after = q.after;
@@ -284,7 +275,7 @@ module _ (o : OptionsData) (x : List ℕ) where
       record {
         after = r.after;
         node = AliasNode (lent_name name) (place_in a r.lexeme);
-        passage = passage_one o x bs (lexemes.Alias (lent_name name)) from (g ++ rest) rest false s a a r refl refl
+        passage = passage_one o (lexemes.Alias (lent_name name)) s a a r.read refl refl
             (ap (alias_fault o.emit_unresolved_aliases) known ∙ always o.emit_unresolved_aliases);
         before = r.before;
         passed = r.passed;
@@ -319,10 +310,8 @@ module _ (o : OptionsData) (x : List ℕ) where
       (fine_as bs r.after.laid.last t.laid.last k r.fine)) in
       let b = past_anchor p.anchor a in
       let i = place_in b q.lexeme in
-      let second = passage_one o x bs (lexemes.Scalar DoubleQuoted (between_quotes chars)) own to rest false r.after b b
-      q refl
-      refl
-      refl in
+      let second = passage_one o (lexemes.Scalar DoubleQuoted (between_quotes chars)) r.after b b q.read refl refl refl
+      in
       record {
         after = q.after;
         node = ScalarNode r.properties DoubleQuoted (between_quotes chars) i;
@@ -338,9 +327,11 @@ module _ (o : OptionsData) (x : List ℕ) where
               q.lexeme,
         );
         within = λ n d b. refl;
-        told = λ more. node_is_told o x a p r.properties (plain.Scalar (between_quotes chars) DoubleQuoted) own to
-            q.lexeme.shown.start q.lexeme.shown.end (imposed None (indent_of q.lexeme.indent)) r.anchor_is r.tag_is
-            (start_of_source x own to q.lexeme.shown q.shown_is) (end_of_source x own to q.lexeme.shown q.shown_is)
-            (ap indent_of q.indent_is) (events_told o more);
+        told = λ more.
+            shown_told o r.properties (plain.Scalar (between_quotes chars) DoubleQuoted) q.lexeme.shown
+            (stretch x own to) (imposed None (indent_of q.lexeme.indent)) q.shown_is (ap indent_of q.indent_is)
+            (events_told o more)
+            ∙ node_is_told o x a p r.properties (plain.Scalar (between_quotes chars) DoubleQuoted) own to r.anchor_is
+            r.tag_is (events_told o more);
         ends = end_of_source x own to q.lexeme.shown q.shown_is;
       }

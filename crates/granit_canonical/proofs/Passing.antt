@@ -1,10 +1,10 @@
 -- Lexemes of canonical text in order, and how the grammar sees them.
-use Rattle.std.proofs.Common.{Bool, List, Option, [], ap, append_assoc, ap₂, arith, false, refl, subst, suc, sym}
-use Rattle.std.proofs.Common.{true, ℕ, ◌++◌, ◌∙◌, ◌∷◌, ◌≡◌}
+use Rattle.std.proofs.Common.{Bool, List, Option, [], ap, append_assoc, ap₂, arith, false, refl, subst, suc, sym, true}
+use Rattle.std.proofs.Common.{ℕ, ◌++◌, ◌∙◌, ◌∷◌, ◌≡◌}
 use Rattle.std.proofs.lemmas.Bool.Decides.{nat_tests}
 use Rattle.std.specs.Prelude.{None, Some, if◌then◌else◌, nat_lt}
 use Rattle.granit_base.specs.Place.{Mark}
-use Rattle.granit_canonical.proofs.Taking.{OneRead}
+use Rattle.granit_canonical.proofs.Taking.{LexemeRead}
 use Rattle.granit_canonical.specs.Canonical.{Anchors, anchor_before, node_before, spot, tag_before}
 use Rattle.granit_error.specs.OptionsData.{OptionsData}
 use Rattle.granit_language.specs.Node.{TreeProperties}
@@ -18,7 +18,7 @@ use Rattle.granit_language.specs.Telling.{properties_anchor, properties_tag, spa
 use Rattle.granit_language.specs.Terminal.{At, PartKind, Terminal, TerminalKind, terminal}
 use Rattle.granit_lexemes.specs.Lexeme.{Lexeme, LexemeKind, OfLexeme}
 use Rattle.granit_lexemes.specs.PlainEvent.{Anchor, EventKind, PlainEvent, PlainTag, event_at}
-use Rattle.granit_lexemes.specs.declared.layout.Bracket.{Bracket}
+use Rattle.granit_lexemes.specs.Source.{Source}
 use Rattle.granit_machine.specs.Reader.{is_end_kind}
 use Rattle.granit_machine.specs.ReaderState.{ReaderState}
 use Rattle.granit_model.specs.FlowText.{anchor_text}
@@ -111,13 +111,12 @@ passage_then o s t u a b c f g p q =
     }
 
 -- one lexeme
-pub passage_one : (o : OptionsData) (x : List ℕ) (bs : List Bracket) (kind : LexemeKind) (from to rest : List ℕ)
-    (v : Bool)
-    (s : ReaderState) (a b : Anchors) → (r : OneRead o x bs kind from to rest v s) → is_end_kind kind ≡ false
+pub passage_one : (o : OptionsData) (kind : LexemeKind) (s : ReaderState) (a b : Anchors)
+    → (r : LexemeRead o kind None s) → is_end_kind kind ≡ false
     → next_scope (terminal_kind kind None) (scope_of a) ≡ scope_of b
     → scope_fault o (terminal_kind kind None) (scope_of a) ≡ None
     → Passage o s a b (λ more. terminal (terminal_kind kind None) (place_in a r.lexeme) ∷ more) r.after
-passage_one o x bs kind from to rest v s a b r n p q =
+passage_one o kind s a b r n p q =
     let l = r.lexeme in
     let same : terminal_kind l.kind l.key ≡ terminal_kind kind None = ap₂ terminal_kind r.kind_is r.key_is in
     record {
@@ -171,20 +170,23 @@ told_of o kind anchor tag from to indent more =
     record { kind = kind (number_told anchor) (tag_told tag); span = span_told tag from to (indent_told indent) }
     ∷ (anchor_told o anchor [] ++ more)
 
+-- by the stretch that it shows, without an indent
+pub shown_told : (o : OptionsData) (q : TreeProperties) (kind : ℕ → Option PlainTag → EventKind) (s source : Source)
+    (indent : Option ℕ) → s ≡ source → indent ≡ None → (more : List PlainEvent)
+    → node_told o q kind s.start s.end indent ++ more ≡ node_told o q kind source.start source.end None ++ more
+shown_told o q kind s source indent e i more =
+    ap₂ (λ (s : Source) (n : Option ℕ). node_told o q kind s.start s.end n ++ more) e i
+
 pub node_is_told : (o : OptionsData) (x : List ℕ) (a : Anchors) (p : Properties) (q : TreeProperties)
-    (kind : ℕ → Option PlainTag → EventKind) (own behind : List ℕ) (from to : Mark) (indent : Option ℕ)
+    (kind : ℕ → Option PlainTag → EventKind) (own behind : List ℕ)
     → properties_anchor q ≡ anchor_before x a p.anchor own
-    → properties_tag o q ≡ tag_before x p.tag (anchor_text p.anchor own)
-    → from ≡ spot x own → to ≡ spot x behind → indent ≡ None → (more : List PlainEvent)
-    → node_told o q kind from to indent ++ more ≡ node_before o x a p kind own behind more
-node_is_told o x a p q kind own behind from to indent e f g h i more =
+    → properties_tag o q ≡ tag_before x p.tag (anchor_text p.anchor own) → (more : List PlainEvent)
+    → node_told o q kind (spot x own) (spot x behind) None ++ more ≡ node_before o x a p kind own behind more
+node_is_told o x a p q kind own behind e f more =
     let anchor = anchor_before x a p.anchor own in
     let tag = tag_before x p.tag (anchor_text p.anchor own) in
-    ap (λ (r : AnchorTold). told_of o kind r (properties_tag o q) from to indent more) e
-    ∙ ap (λ (r : TagTold). told_of o kind anchor r from to indent more) f
-    ∙ ap (λ (m : Mark). told_of o kind anchor tag m to indent more) g
-    ∙ ap (λ (m : Mark). told_of o kind anchor tag (spot x own) m indent more) h
-    ∙ ap (λ (n : Option ℕ). told_of o kind anchor tag (spot x own) (spot x behind) n more) i
+    ap (λ (r : AnchorTold). told_of o kind r (properties_tag o q) (spot x own) (spot x behind) None more) e
+    ∙ ap (λ (r : TagTold). told_of o kind anchor r (spot x own) (spot x behind) None more) f
     ∙ ap (λ (es : List PlainEvent). record {
       kind = kind (number_told anchor) (tag_told tag);
       span = span_told tag (spot x own) (spot x behind) None;

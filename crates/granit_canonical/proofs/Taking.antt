@@ -1,5 +1,6 @@
 -- One read of a lexeme of canonical text, by what stands at its place.
-use Rattle.std.proofs.Common.{Bool, List, [], ap, arith, drop, false, subst, sym, true, ℕ, ◌==◌, ◌||◌, ◌∙◌, ◌∷◌, ◌≡◌}
+use Rattle.std.proofs.Common.{Bool, List, Option, [], ap, arith, drop, false, subst, sym, true, ℕ, ◌==◌, ◌||◌, ◌∙◌, ◌∷◌}
+use Rattle.std.proofs.Common.{◌≡◌}
 use Rattle.std.proofs.lemmas.Bool.Decides.{nat_tests}
 use Rattle.std.specs.Prelude.{None}
 use Rattle.granit_base.specs.Classes.{is_blank, is_break, is_gap, is_printable}
@@ -14,7 +15,7 @@ use Rattle.granit_language.specs.Begins.{Begins, SignBegins, ThreeStand, sign}
 use Rattle.granit_language.specs.Reached.{BeginsAt, GivenAt, Reads, of_lexeme}
 use Rattle.granit_language.specs.Standing.{in_front_of_lexeme}
 use Rattle.granit_lexemes.specs.Here.{Here, mark_of}
-use Rattle.granit_lexemes.specs.Lexeme.{Lexeme, LexemeKind, OfLexeme}
+use Rattle.granit_lexemes.specs.Lexeme.{KeyStart, Lexeme, LexemeKind, OfLexeme}
 use Rattle.granit_lexemes.specs.PlainExtent.{over}
 use Rattle.granit_lexemes.specs.declared.layout.Bracket.{Bracket}
 use Rattle.granit_machine.specs.Gaps.{behind_gap}
@@ -65,15 +66,20 @@ pub record Taken (o : OptionsData) (x : List ℕ) (bs : List Bracket) (sort : Le
   pub calm : Calm bs behind.laid
   pub opener : is_opener behind.laid.last ≡ v
 
--- one read of it, with the gap before it
-pub record OneRead (o : OptionsData) (x : List ℕ) (bs : List Bracket) (kind : LexemeKind) (from to rest : List ℕ)
-    (v : Bool) (s : ReaderState) : Type 0 where
+-- a lexeme of a kind that is read, with this simple key and no comment behind it
+pub record LexemeRead (o : OptionsData) (kind : LexemeKind) (key : Option KeyStart) (s : ReaderState) : Type 0 where
   pub lexeme : Lexeme
   pub after : ReaderState
   pub reads : Reads o s (OfLexeme lexeme ∷ []) after
   pub kind_is : lexeme.kind ≡ kind
-  pub key_is : lexeme.key ≡ None
+  pub key_is : lexeme.key ≡ key
   pub tail_is : lexeme.tail ≡ None
+
+-- one read of it, with the gap before it
+pub record OneRead (o : OptionsData) (x : List ℕ) (bs : List Bracket) (kind : LexemeKind) (from to rest : List ℕ)
+    (v : Bool) (s : ReaderState) : Type 0 where
+  pub read : LexemeRead o kind None s
+  pub open read use *
   pub indent_is : lexeme.indent ≡ None
   pub start_is : lexeme.start ≡ spot x from
   pub shown_is : lexeme.shown ≡ stretch x from to
@@ -105,24 +111,26 @@ module _ (o : OptionsData) (x : List ℕ) where
       let k = f t p.held p.text (calm_fresh o (mark_of h) bs at.laid calm)
       (gap_opener (is_nonempty b.gap) s.laid.last) in
       record {
-        lexeme = k.lexeme;
-        after = freshened o k.behind;
-        reads = of_lexeme at k.behind sort
-            (record {
-              gap = in_front_of_lexeme h (record {
-                gap = b.gap;
-                over = gap_to (MayPrefix s.laid) b.gap from s.here b.text b.is_gap;
-                stops = gap_stops (MayPrefix s.laid) from h p.text st;
+        read = record {
+          lexeme = k.lexeme;
+          after = freshened o k.behind;
+          reads = of_lexeme at k.behind sort
+              (record {
+                gap = in_front_of_lexeme h (record {
+                  gap = b.gap;
+                  over = gap_to (MayPrefix s.laid) b.gap from s.here b.text b.is_gap;
+                  stops = gap_stops (MayPrefix s.laid) from h p.text st;
+                })
+                    (ap (λ (l : List ℕ). first l == 0x23) p.text ∙ st.no_comment) (tabs_fit o bs s.laid h c)
+                    (cut_fits bs s.laid h c);
+                keys = none_overdue o bs at calm;
+                begins = k.begins;
               })
-                  (ap (λ (l : List ℕ). first l == 0x23) p.text ∙ st.no_comment) (tabs_fit o bs s.laid h c)
-                  (cut_fits bs s.laid h c);
-              keys = none_overdue o bs at calm;
-              begins = k.begins;
-            })
-            k.given (none_overdue o ds k.behind k.calm);
-        kind_is = k.kind_is;
-        key_is = k.key_is;
-        tail_is = k.tail_is;
+              k.given (none_overdue o ds k.behind k.calm);
+          kind_is = k.kind_is;
+          key_is = k.key_is;
+          tail_is = k.tail_is;
+        };
         indent_is = k.indent_is;
         start_is = k.start_is;
         shown_is = k.shown_is;

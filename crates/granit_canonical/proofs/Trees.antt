@@ -18,8 +18,8 @@ use Rattle.granit_canonical.proofs.Places.{Before, Starts, spaced, touching}
 use Rattle.granit_canonical.proofs.Signs.{takes_colon, takes_comma, takes_question}
 use Rattle.granit_canonical.proofs.Spelling.{CanSpell, CanSpellPairs, CanSpellTrees}
 use Rattle.granit_canonical.proofs.Taking.{Follows, follows_parts, follows_starts, in_brackets, reads_one}
-use Rattle.granit_canonical.specs.Canonical.{Anchors, entries_before, pairs_before, past_anchor, past_pairs}
-use Rattle.granit_canonical.specs.Canonical.{past_tree, past_trees, tree_before}
+use Rattle.granit_canonical.specs.Canonical.{Anchors, entries_before, pairs_before, past_anchor, past_pairs, past_tree}
+use Rattle.granit_canonical.specs.Canonical.{past_trees, tree_before}
 use Rattle.granit_error.specs.OptionsData.{OptionsData}
 use Rattle.granit_language.specs.Node.{AfterItem, Asked, FlowLead, Just, LastItem, NoItem, Node, Pair, Paired, Single}
 use Rattle.granit_language.specs.Node.{WithColon}
@@ -37,10 +37,10 @@ use Rattle.granit_lexemes.specs.declared.layout.Bracket.TheVariants.{Curly, Squa
 use Rattle.granit_machine.specs.LexemeSort.{ColonSign, CommaSign, QuestionSign}
 use Rattle.granit_machine.specs.ReaderState.{ReaderState}
 use Rattle.granit_model.specs.FlowText.{entries_text, pair_text, pairs_text, quoted_characters, tree_text}
-use Rattle.granit_model.specs.Tree.{AfterPairs, AfterTrees, AliasOf, MappingOf, NoPairs, NoTrees, PairsFit}
-use Rattle.granit_model.specs.Tree.{PlainPairs, PlainTree, PlainTrees, ScalarOf, SequenceOf, TreeFits, TreesFit}
-use Rattle.granit_model.specs.Tree.{behind_pairs, behind_tree, behind_trees, no_pairs, no_trees, pairs_depth}
-use Rattle.granit_model.specs.Tree.{tree_depth, trees_depth, with_anchor}
+use Rattle.granit_model.specs.Tree.{AfterPairs, AfterTrees, AliasOf, MappingOf, NoPairs, NoTrees, PairsFit, PlainPairs}
+use Rattle.granit_model.specs.Tree.{PlainTree, PlainTrees, ScalarOf, SequenceOf, TreeFits, TreesFit, behind_pairs}
+use Rattle.granit_model.specs.Tree.{behind_tree, behind_trees, no_pairs, no_trees, pairs_depth, tree_depth, trees_depth}
+use Rattle.granit_model.specs.Tree.{with_anchor}
 
 pub most_both : (a b n m : ℕ) → max a b + n ≤ m → (a + n ≤ m) × (b + n ≤ m)
 most_both a b n m h = (omega (arith, h, le-max_left a b), omega (arith, h, le-max_right a b))
@@ -164,12 +164,8 @@ module _ (o : OptionsData) (x : List ℕ) where
       m.calm m.opener in
       let i = place_in a q.lexeme in
       let j = place_in b m.lexeme in
-      let first = passage_one o x (Curly ∷ bs) lexemes.Question (0x3F ∷ 0x20 ∷ key_text) (0x20 ∷ key_text) key_text
-      false s a a
-      q refl refl refl in
-      let third = passage_one o x (Curly ∷ bs) lexemes.Colon at_colon (0x20 ∷ value_text) value_text false kn.after b b
-      m refl
-      refl refl in
+      let first = passage_one o lexemes.Question s a a q.read refl refl refl in
+      let third = passage_one o lexemes.Colon kn.after b b m.read refl refl refl in
       let asked = λ (more : List Terminal). terminal Question i ∷ more in
       let parted = λ (more : List Terminal). terminal (Colon None) j ∷ more in
       let rear = passage_then o kn.after m.after vn.after b b c parted (spell vn.node) third vn.passage in
@@ -349,9 +345,7 @@ module _ (o : OptionsData) (x : List ℕ) where
         let n = tree_read t (behind_trees ts known) can.1 fits.1 (Square ∷ bs) [] closing q.after b d.follows d.ended
         (knows_trees ts known a knows) deeper.1 q.before q.calm tt in
         let m = place_in b q.lexeme in
-        let middle = passage_one o x (Square ∷ bs) lexemes.Comma (0x2C ∷ 0x20 ∷ next) (0x20 ∷ next) next true r.after b
-        b q refl
-        refl refl in
+        let middle = passage_one o lexemes.Comma r.after b b q.read refl refl refl in
         let parted = λ (more : List Terminal). terminal Comma m ∷ more in
         let rear = passage_then o r.after q.after n.after b b (past_tree t b) parted (spell n.node) middle n.passage in
         record {
@@ -412,9 +406,7 @@ module _ (o : OptionsData) (x : List ℕ) where
         q.calm in
         let m = place_in b q.lexeme in
         let c = past_tree v (past_tree k b) in
-        let middle = passage_one o x (Curly ∷ bs) lexemes.Comma (0x2C ∷ 0x20 ∷ next) (0x20 ∷ next) next true r.after b b
-        q refl
-        refl refl in
+        let middle = passage_one o lexemes.Comma r.after b b q.read refl refl refl in
         let parted = λ (more : List Terminal). terminal Comma m ∷ more in
         let rear = passage_then o r.after q.after n.after b b c parted (spell_pair n.pair) middle n.passage in
         record {

@@ -29,13 +29,11 @@ use Rattle.granit_language.specs.Reached.{ReadWhole, Reads, whole_ends, whole_go
 use Rattle.granit_language.specs.Room.{RightOf}
 use Rattle.granit_language.specs.Scope.{Scope, no_scope}
 use Rattle.granit_language.specs.Scoping.{Means, scope_behind, scoped}
-use Rattle.granit_language.specs.Seen.{at_of, lexemes_flagged, terminal_kind, terminal_of, terminal_seen}
-use Rattle.granit_language.specs.Seen.{terminals_of}
+use Rattle.granit_language.specs.Seen.{at_of, lexemes_flagged, terminal_kind, terminal_of, terminal_seen, terminals_of}
 use Rattle.granit_language.specs.Telling.{events_told, version_told}
 use Rattle.granit_language.specs.Terminal.{At, DocumentStart, Terminal, TerminalKind, TheEnd, terminal, text_start}
-use Rattle.granit_language.specs.TreeEvents.{DocumentEnds, DocumentStarts, StreamEnds, TreeEvent, node_end}
-use Rattle.granit_language.specs.TreeEvents.{node_events, pointed, shown_event, start_events, start_version}
-use Rattle.granit_language.specs.TreeEvents.{stream_events}
+use Rattle.granit_language.specs.TreeEvents.{DocumentEnds, DocumentStarts, StreamEnds, TreeEvent, node_end, node_events}
+use Rattle.granit_language.specs.TreeEvents.{pointed, shown_event, start_events, start_version, stream_events}
 use Rattle.granit_language.specs.Whole.{WholeReading}
 use Rattle.granit_language.specs.Within.{rooted_within, start_within, stream_within}
 use Rattle.granit_language.specs.Yield.{spell, spell_start, spell_stream}
@@ -150,7 +148,7 @@ module _ (o : OptionsData) (x : List ℕ) where
       (knows_none a.count)
       (omega (arith, deep)) q.before q.calm tt in
       let i = place_in a q.lexeme in
-      let first = passage_one o x [] lexemes.DocumentStart from (0x20 ∷ root) root false d.after a b q refl refl refl in
+      let first = passage_one o lexemes.DocumentStart d.after a b q.read refl refl refl in
       let marked_by = λ (more : List Terminal). terminal DocumentStart i ∷ more in
       let rear = passage_then o d.after q.after n.after a b c marked_by (spell n.node) first n.passage in
       record {

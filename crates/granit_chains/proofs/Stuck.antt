@@ -1,6 +1,6 @@
 -- Where a turn fails: an item is refused, which begins no document where none is open, or a read was.
 use Rattle.std.proofs.Common.{◌≡◌, ℕ, Bool, true, false, List, [], ◌∷◌, Option, Some, None, is_some, Result, Ok, Err}
-use Rattle.std.proofs.Common.{refl, ap}
+use Rattle.std.proofs.Common.{refl, sym, ap, ap₂, ◌∙◌}
 use Rattle.std.specs.Prelude.{if◌then◌else◌}
 use Rattle.granit_chains.specs.Chains.{is_open_parser, is_open_by}
 use Rattle.granit_error.specs.OptionsData.{OptionsData}
@@ -28,19 +28,27 @@ parser_with frames stage waiting p = record p { frames = frames; stage = stage; 
 abbrev start_item : LexemeKind → Option CommentRead → Lexeme → Bool → FlaggedItem
 start_item kind tail l b = record { item = OfLexeme (record l { kind = kind; tail = tail }); begins_key = b }
 
-start_fed : (o : OptionsData) (kind : LexemeKind) (tail : Option CommentRead) (l : Lexeme) (b : Bool)
-    (next : Option ℕ) (frames : List Frame) (stage : DocumentStage) (waiting : Option Waiting) (p : ParserState)
-    (f : Fault) → is_start kind ≡ true → is_open_by frames stage waiting ≡ false
-    → feed o (start_item kind tail l b) next (parser_with frames stage waiting p) ≡ Err f → ⊥
+start_fed : (o : OptionsData) (tail : Option CommentRead) (l : Lexeme) (b : Bool) (next : Option ℕ) (p : ParserState)
+    (f : Fault) → feed o (start_item lexemes.DocumentStart tail l b) next (parser_with [] Fresh None p) ≡ Err f → ⊥
 unfolding feed pieces turns close_turn
-start_fed o lexemes.DocumentStart None l b next [] Fresh None p f start closed e = cc
-start_fed o lexemes.DocumentStart (Some c) l b next [] Fresh None p f start closed e = cc
-start_fed o kind tail l b next frames stage waiting p f start closed e = absurd (cc)
+start_fed o None l b next p f e = cc
+start_fed o (Some c) l b next p f e = cc
+
+document_start_is : (kind : LexemeKind) → is_start kind ≡ true → kind ≡ lexemes.DocumentStart
+document_start_is lexemes.DocumentStart e = refl
+document_start_is kind e = absurd (cc)
+
+closed_with : (frames : List Frame) (stage : DocumentStage) (waiting : Option Waiting) (p : ParserState)
+    → is_open_by frames stage waiting ≡ false → parser_with frames stage waiting p ≡ parser_with [] Fresh None p
+closed_with [] Fresh None p e = refl
+closed_with frames stage waiting p e = absurd (cc)
 
 item_fed : (o : OptionsData) (i : Item) (b : Bool) (next : Option ℕ) (p : ParserState) (f : Fault)
     → starts i ≡ true → is_open_parser p ≡ false → feed o (record { item = i; begins_key = b }) next p ≡ Err f → ⊥
 item_fed o (OfLexeme l) b next p f start closed e =
-    start_fed o l.kind l.tail l b next p.frames p.stage p.waiting p f start closed e
+    start_fed o l.tail l b next p f
+    (ap₂ (λ (kind : LexemeKind) (q : ParserState). feed o (start_item kind l.tail l b) next q)
+    (sym (document_start_is l.kind start)) (sym (closed_with p.frames p.stage p.waiting p closed)) ∙ e)
 item_fed o (OfComment c) b next p f start closed e = cc
 
 -- ---- where a turn fails

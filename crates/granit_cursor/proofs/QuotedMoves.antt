@@ -123,13 +123,20 @@ lends_by single in_flow h inside (Some part) Lands some is q lends there = (
   subst (λ (t : List ℕ). Lands (steps (length t + 2) h)) (sym is) there,
 )
 
-pub lends_quoted : (single in_flow : Bool) (h : Here) (inside : List ℕ) (old now : Origin) (left start end : ℕ)
+-- what stands between quotes, and the offsets between which it does
+pub record QuotedPart : Type 0 where
+  pub single : Bool
+  pub inside : List ℕ
+  pub start : ℕ
+  pub end : ℕ
+
+pub lends_quoted : (p : QuotedPart) (in_flow : Bool) (h : Here) (old now : Origin) (left : ℕ)
     (answer : Option (Bor (List ℕ))) (Lands : Here → Type 0) → Goes old now → Agrees left old h.unread
-    → QuotedAt single in_flow h.unread inside start end → PartOf now.lent start end answer
-    → Lands (steps (length inside + 2) h) → LendsQuoted single in_flow h answer Lands
-lends_quoted single in_flow h inside old now left start end answer Lands goes agrees q part there =
+    → QuotedAt p.single in_flow h.unread p.inside p.start p.end → PartOf now.lent p.start p.end answer
+    → Lands (steps (length p.inside + 2) h) → LendsQuoted p.single in_flow h answer Lands
+lends_quoted p in_flow h old now left answer Lands goes agrees q part there =
     let on = spelled_on old now left h.unread goes agrees q.lends in
     let both = and_parts now.tells_offset (is_some now.lent) on.1 in
-    let lent = lent_inside now.lent single in_flow h.unread inside start end answer on.0 both.1
+    let lent = lent_inside now.lent p.single in_flow h.unread p.inside p.start p.end answer on.0 both.1
     (agrees.offset ∙ sym goes.tells_offset ∙ both.0) q part in
-    lends_by single in_flow h inside answer Lands lent.0 lent.1 q.quoted q.lends there
+    lends_by p.single in_flow h p.inside answer Lands lent.0 lent.1 q.quoted q.lends there

@@ -26,6 +26,7 @@ use Rattle.granit_language.specs.Terminal.{stands_left, no_terminal}
 use Rattle.granit_language.specs.TreeEvents.{SequenceEnds, MappingEnds, TreeEvent, pointed, null, indent_of_key}
 use Rattle.granit_language.specs.TreeEvents.{properties_end, alone_event, node_events, content_events, entries_events}
 use Rattle.granit_language.specs.TreeEvents.{pair_events, first_with, entries_first, first_terminal, node_end}
+use Rattle.granit_lexemes.specs.declared.layout.Bracket.{Bracket}
 use Rattle.granit_lexemes.specs.declared.layout.Bracket.TheVariants.{Square, Curly}
 
 abbrev pub ending_state : Ending → EventState
@@ -102,60 +103,72 @@ block_agrees x on r p c lead (AskOnly q v e) h =
     (one _ _ (pointed MappingEnds x.at.start) _ _ (h (Mapping p c (Through lead (AskOnly q v e)) x.at.start)))
     (same _ _ (PastPair r (BlockPairs p c lead) (AskOnly q v e)) tt (λ more. refl))
 
+-- a flow collection that is open: the hole that it stands in, its properties, its bracket and the items so far
+record OpenFlow : Type 0 where
+  hole : Hole
+  properties : TreeProperties
+  opener : At
+  lead : FlowLead
+
+abbrev opened_flow : Hole → TreeProperties → At → FlowLead → OpenFlow
+opened_flow r p o lead = record { hole = r; properties = p; opener = o; lead = lead }
+
+-- the pairs in it
+abbrev flow_pairs_of : Bracket → OpenFlow → Around
+flow_pairs_of bracket a = FlowPairs a.properties bracket a.opener a.lead
+
 curly_agrees :
-    (x : Terminal) (on : Content → OpenPlace) (r : Hole) (p : TreeProperties) (o : At) (lead : FlowLead) (pair : Pair) →
-    Agree (PairEvents x r (FlowPairs p Curly o lead) pair) x.at.start (past_curly (hole_frames r))
-    (end_pair x on r (FlowPairs p Curly o lead) pair)
-curly_agrees x on r p o lead pair = same _ _ (PastItem r p Curly o lead (Paired pair)) tt (λ more. refl)
+    (x : Terminal) (on : Content → OpenPlace) (a : OpenFlow) (pair : Pair) →
+    Agree (PairEvents x a.hole (flow_pairs_of Curly a) pair) x.at.start (past_curly (hole_frames a.hole))
+    (end_pair x on a.hole (flow_pairs_of Curly a) pair)
+curly_agrees x on a pair = same _ _ (PastItem a.hole a.properties Curly a.opener a.lead (Paired pair)) tt (λ more. refl)
 
 abbrev SquareOver : Terminal → Hole → Ending
 SquareOver x r = finish_frames x x.at.start (FlowSequenceFrame false ∷ hole_frames r)
 
 -- the end of a pair that a `?` makes
 asked_agrees :
-    (x : Terminal) (on : Content → OpenPlace) (r : Hole) (p : TreeProperties) (o : At) (lead : FlowLead) (q : At)
-    (v : Content) (m : At) (w : Content) →
-    Agree (PairEvents x r (FlowPairs p Square o lead) (WithColon (Asked q v) m w)) x.at.start
-    (with_event (pointed MappingEnds x.at.start) (SquareOver x r))
-    (end_pair x on r (FlowPairs p Square o lead) (WithColon (Asked q v) m w))
-asked_agrees x on r p o lead q v m w =
+    (x : Terminal) (on : Content → OpenPlace) (a : OpenFlow) (q : At) (v : Content) (m : At) (w : Content) →
+    Agree (PairEvents x a.hole (flow_pairs_of Square a) (WithColon (Asked q v) m w)) x.at.start
+    (with_event (pointed MappingEnds x.at.start) (SquareOver x a.hole))
+    (end_pair x on a.hole (flow_pairs_of Square a) (WithColon (Asked q v) m w))
+asked_agrees x on a q v m w =
     one _ _ (pointed MappingEnds x.at.start) _ _
-    (same _ _ (PastItem r p Square o lead (Paired (WithColon (Asked q v) m w))) tt (λ more. refl))
+    (same _ _ (PastItem a.hole a.properties Square a.opener a.lead (Paired (WithColon (Asked q v) m w))) tt
+    (λ more. refl))
 
 alone_agrees :
-    (x : Terminal) (on : Content → OpenPlace) (r : Hole) (p : TreeProperties) (o : At) (lead : FlowLead) (q : At)
-    (v : Content) (e : Mark) →
-    Agree (PairEvents x r (FlowPairs p Square o lead) (AskOnly q v e)) x.at.start
-    (with_event (pointed MappingEnds x.at.start) (SquareOver x r))
-    (end_pair x on r (FlowPairs p Square o lead) (AskOnly q v e))
-alone_agrees x on r p o lead q v e =
+    (x : Terminal) (on : Content → OpenPlace) (a : OpenFlow) (q : At) (v : Content) (e : Mark) →
+    Agree (PairEvents x a.hole (flow_pairs_of Square a) (AskOnly q v e)) x.at.start
+    (with_event (pointed MappingEnds x.at.start) (SquareOver x a.hole))
+    (end_pair x on a.hole (flow_pairs_of Square a) (AskOnly q v e))
+alone_agrees x on a q v e =
     one _ _ (pointed MappingEnds x.at.start) _ _
-    (same _ _ (PastItem r p Square o lead (Paired (AskOnly q v e))) tt (λ more. refl))
+    (same _ _ (PastItem a.hole a.properties Square a.opener a.lead (Paired (AskOnly q v e))) tt (λ more. refl))
 
 -- of one that a `:` makes
 key_made_agrees :
-    (x : Terminal) (on : Content → OpenPlace) (r : Hole) (p : TreeProperties) (o : At) (lead : FlowLead) (f : Terminal)
-    (k : Node) (n : ℕ) (m : At) (w : Content) →
-    Agree (PairEvents x r (FlowPairs p Square o lead) (WithColon (SimpleKey f k n) m w)) x.at.start
-    (past_made x (FlowSequenceFrame false ∷ hole_frames r) (SquareOver x r))
-    (end_pair x on r (FlowPairs p Square o lead) (WithColon (SimpleKey f k n) m w))
-key_made_agrees x on r p o lead f k n m w =
+    (x : Terminal) (on : Content → OpenPlace) (a : OpenFlow) (f : Terminal) (k : Node) (n : ℕ) (m : At) (w : Content) →
+    Agree (PairEvents x a.hole (flow_pairs_of Square a) (WithColon (SimpleKey f k n) m w)) x.at.start
+    (past_made x (FlowSequenceFrame false ∷ hole_frames a.hole) (SquareOver x a.hole))
+    (end_pair x on a.hole (flow_pairs_of Square a) (WithColon (SimpleKey f k n) m w))
+key_made_agrees x on a f k n m w =
     both _ _ (is_comma_kind x.kind || closes_kind Square x.kind) _ _ _ _
     (one _ _ (pointed MappingEnds x.at.start) _ _
-    (same _ _ (PastItem r p Square o lead (Paired (WithColon (SimpleKey f k n) m w))) tt (λ more. refl)))
-    (same _ _ (PastPair r (FlowPairs p Square o lead) (WithColon (SimpleKey f k n) m w)) tt (λ more. refl))
+    (same _ _ (PastItem a.hole a.properties Square a.opener a.lead (Paired (WithColon (SimpleKey f k n) m w))) tt
+    (λ more. refl)))
+    (same _ _ (PastPair a.hole (flow_pairs_of Square a) (WithColon (SimpleKey f k n) m w)) tt (λ more. refl))
 
 bare_made_agrees :
-    (x : Terminal) (on : Content → OpenPlace) (r : Hole) (p : TreeProperties) (o : At) (lead : FlowLead) (m : At)
-    (w : Content) →
-    Agree (PairEvents x r (FlowPairs p Square o lead) (WithColon NoKey m w)) x.at.start
-    (past_made x (FlowSequenceFrame false ∷ hole_frames r) (SquareOver x r))
-    (end_pair x on r (FlowPairs p Square o lead) (WithColon NoKey m w))
-bare_made_agrees x on r p o lead m w =
+    (x : Terminal) (on : Content → OpenPlace) (a : OpenFlow) (m : At) (w : Content) →
+    Agree (PairEvents x a.hole (flow_pairs_of Square a) (WithColon NoKey m w)) x.at.start
+    (past_made x (FlowSequenceFrame false ∷ hole_frames a.hole) (SquareOver x a.hole))
+    (end_pair x on a.hole (flow_pairs_of Square a) (WithColon NoKey m w))
+bare_made_agrees x on a m w =
     both _ _ (is_comma_kind x.kind || closes_kind Square x.kind) _ _ _ _
     (one _ _ (pointed MappingEnds x.at.start) _ _
-    (same _ _ (PastItem r p Square o lead (Paired (WithColon NoKey m w))) tt (λ more. refl)))
-    (same _ _ (PastPair r (FlowPairs p Square o lead) (WithColon NoKey m w)) tt (λ more. refl))
+    (same _ _ (PastItem a.hole a.properties Square a.opener a.lead (Paired (WithColon NoKey m w))) tt (λ more. refl)))
+    (same _ _ (PastPair a.hole (flow_pairs_of Square a) (WithColon NoKey m w)) tt (λ more. refl))
 
 -- `?` keys
 block_ask_agrees :
@@ -171,25 +184,23 @@ block_ask_agrees x on r p c lead q v h =
     (same _ _ (PastAsk r (BlockPairs p c lead) q v) tt (λ more. refl))
 
 curly_ask_agrees :
-    (x : Terminal) (on : Content → OpenPlace) (r : Hole) (p : TreeProperties) (o : At) (lead : FlowLead) (q : At)
-    (v : Content) →
-    Agree (AskEvents x r (FlowPairs p Curly o lead) q v) x.at.start (past_curly_asked x (hole_frames r))
-    (end_ask x on r (FlowPairs p Curly o lead) q v)
-curly_ask_agrees x on r p o lead q v =
+    (x : Terminal) (on : Content → OpenPlace) (a : OpenFlow) (q : At) (v : Content) →
+    Agree (AskEvents x a.hole (flow_pairs_of Curly a) q v) x.at.start (past_curly_asked x (hole_frames a.hole))
+    (end_ask x on a.hole (flow_pairs_of Curly a) q v)
+curly_ask_agrees x on a q v =
     both _ _ (ask_over (FlowIn Curly) x) _ _ _ _
-    (one _ _ (null x.at.start None) _ _ (curly_agrees x on r p o lead (AskOnly q v x.at.start)))
-    (same _ _ (PastAsk r (FlowPairs p Curly o lead) q v) tt (λ more. refl))
+    (one _ _ (null x.at.start None) _ _ (curly_agrees x on a (AskOnly q v x.at.start)))
+    (same _ _ (PastAsk a.hole (flow_pairs_of Curly a) q v) tt (λ more. refl))
 
 square_ask_agrees :
-    (x : Terminal) (on : Content → OpenPlace) (r : Hole) (p : TreeProperties) (o : At) (lead : FlowLead) (q : At)
-    (v : Content) →
-    Agree (AskEvents x r (FlowPairs p Square o lead) q v) x.at.start
-    (past_square_asked x (FlowSequenceFrame false ∷ hole_frames r) (SquareOver x r))
-    (end_ask x on r (FlowPairs p Square o lead) q v)
-square_ask_agrees x on r p o lead q v =
+    (x : Terminal) (on : Content → OpenPlace) (a : OpenFlow) (q : At) (v : Content) →
+    Agree (AskEvents x a.hole (flow_pairs_of Square a) q v) x.at.start
+    (past_square_asked x (FlowSequenceFrame false ∷ hole_frames a.hole) (SquareOver x a.hole))
+    (end_ask x on a.hole (flow_pairs_of Square a) q v)
+square_ask_agrees x on a q v =
     both _ _ (ask_over (FlowIn Square) x) _ _ _ _
-    (one _ _ (null x.at.start None) _ _ (alone_agrees x on r p o lead q v x.at.start))
-    (same _ _ (PastAsk r (FlowPairs p Square o lead) q v) tt (λ more. refl))
+    (one _ _ (null x.at.start None) _ _ (alone_agrees x on a q v x.at.start))
+    (same _ _ (PastAsk a.hole (flow_pairs_of Square a) q v) tt (λ more. refl))
 
 finish_agrees : (x : Terminal) (r : Hole) → Finishes x r (finish_at x r)
 finish_agrees x (AtRoot (Bare b)) t = same _ _ (BehindRoot (BareRoot b t)) tt (λ more. refl)
@@ -205,18 +216,20 @@ finish_agrees x (AtKey r (FlowPairs p Curly o lead) f) t =
     same _ _ (PastKey r (FlowPairs p Curly o lead) f t) tt (λ more. refl)
 finish_agrees x (AtAsk r (BlockPairs p c lead) q) t =
     block_ask_agrees x (finish_at x r) r p c lead q (Just t) (finish_agrees x r)
-finish_agrees x (AtAsk r (FlowPairs p Square o lead) q) t = square_ask_agrees x (finish_at x r) r p o lead q (Just t)
-finish_agrees x (AtAsk r (FlowPairs p Curly o lead) q) t = curly_ask_agrees x (finish_at x r) r p o lead q (Just t)
+finish_agrees x (AtAsk r (FlowPairs p Square o lead) q) t =
+    square_ask_agrees x (finish_at x r) (opened_flow r p o lead) q (Just t)
+finish_agrees x (AtAsk r (FlowPairs p Curly o lead) q) t =
+    curly_ask_agrees x (finish_at x r) (opened_flow r p o lead) q (Just t)
 finish_agrees x (AtColon r (BlockPairs p c lead) left m) t =
     block_agrees x (finish_at x r) r p c lead (WithColon left m (Just t)) (finish_agrees x r)
 finish_agrees x (AtColon r (FlowPairs p Curly o lead) left m) t =
-    curly_agrees x (finish_at x r) r p o lead (WithColon left m (Just t))
+    curly_agrees x (finish_at x r) (opened_flow r p o lead) (WithColon left m (Just t))
 finish_agrees x (AtColon r (FlowPairs p Square o lead) (SimpleKey f k n) m) t =
-    key_made_agrees x (finish_at x r) r p o lead f k n m (Just t)
+    key_made_agrees x (finish_at x r) (opened_flow r p o lead) f k n m (Just t)
 finish_agrees x (AtColon r (FlowPairs p Square o lead) (Asked q v) m) t =
-    asked_agrees x (finish_at x r) r p o lead q v m (Just t)
+    asked_agrees x (finish_at x r) (opened_flow r p o lead) q v m (Just t)
 finish_agrees x (AtColon r (FlowPairs p Square o lead) NoKey m) t =
-    bare_made_agrees x (finish_at x r) r p o lead m (Just t)
+    bare_made_agrees x (finish_at x r) (opened_flow r p o lead) m (Just t)
 
 -- what stays empty
 nothing_agrees :
@@ -243,11 +256,11 @@ nothing_agrees x (AtAsk r (BlockPairs p c lead) q) i =
     (same _ _ (Want (AtAsk r (BlockPairs p c lead) q) NoProperties) tt (λ more. refl))
 nothing_agrees x (AtAsk r (FlowPairs p Square o lead) q) i =
     both _ _ (ask_empty (FlowIn Square) x) _ _ _ _
-    (one _ _ (null x.at.start None) _ _ (square_ask_agrees x (finish_at x r) r p o lead q Nothing))
+    (one _ _ (null x.at.start None) _ _ (square_ask_agrees x (finish_at x r) (opened_flow r p o lead) q Nothing))
     (same _ _ (Want (AtAsk r (FlowPairs p Square o lead) q) NoProperties) tt (λ more. refl))
 nothing_agrees x (AtAsk r (FlowPairs p Curly o lead) q) i =
     both _ _ (ask_empty (FlowIn Curly) x) _ _ _ _
-    (one _ _ (null x.at.start None) _ _ (curly_ask_agrees x (finish_at x r) r p o lead q Nothing))
+    (one _ _ (null x.at.start None) _ _ (curly_ask_agrees x (finish_at x r) (opened_flow r p o lead) q Nothing))
     (same _ _ (Want (AtAsk r (FlowPairs p Curly o lead) q) NoProperties) tt (λ more. refl))
 nothing_agrees x (AtColon r (BlockPairs p c lead) left m) i =
     both _ _ (value_empty (BlockIn c) x) _ _ _ _
@@ -256,19 +269,20 @@ nothing_agrees x (AtColon r (BlockPairs p c lead) left m) i =
     (same _ _ (Want (AtColon r (BlockPairs p c lead) left m) NoProperties) tt (λ more. refl))
 nothing_agrees x (AtColon r (FlowPairs p Curly o lead) left m) i =
     both _ _ (value_empty (FlowIn Curly) x) _ _ _ _
-    (one _ _ (null m.start None) _ _ (curly_agrees x (finish_at x r) r p o lead (WithColon left m Nothing)))
+    (one _ _ (null m.start None) _ _
+    (curly_agrees x (finish_at x r) (opened_flow r p o lead) (WithColon left m Nothing)))
     (same _ _ (Want (AtColon r (FlowPairs p Curly o lead) left m) NoProperties) tt (λ more. refl))
 nothing_agrees x (AtColon r (FlowPairs p Square o lead) (SimpleKey f k n) m) i =
     both _ _ (value_empty (FlowIn Square) x) _ _ _ _
-    (one _ _ (null m.start None) _ _ (key_made_agrees x (finish_at x r) r p o lead f k n m Nothing))
+    (one _ _ (null m.start None) _ _ (key_made_agrees x (finish_at x r) (opened_flow r p o lead) f k n m Nothing))
     (same _ _ (Want (AtColon r (FlowPairs p Square o lead) (SimpleKey f k n) m) NoProperties) tt (λ more. refl))
 nothing_agrees x (AtColon r (FlowPairs p Square o lead) (Asked q v) m) i =
     both _ _ (value_empty (FlowIn Square) x) _ _ _ _
-    (one _ _ (null x.at.start None) _ _ (asked_agrees x (finish_at x r) r p o lead q v m Nothing))
+    (one _ _ (null x.at.start None) _ _ (asked_agrees x (finish_at x r) (opened_flow r p o lead) q v m Nothing))
     (same _ _ (Want (AtColon r (FlowPairs p Square o lead) (Asked q v) m) NoProperties) tt (λ more. refl))
 nothing_agrees x (AtColon r (FlowPairs p Square o lead) NoKey m) i =
     both _ _ (value_empty (FlowIn Square) x) _ _ _ _
-    (one _ _ (null m.start None) _ _ (bare_made_agrees x (finish_at x r) r p o lead m Nothing))
+    (one _ _ (null m.start None) _ _ (bare_made_agrees x (finish_at x r) (opened_flow r p o lead) m Nothing))
     (same _ _ (Want (AtColon r (FlowPairs p Square o lead) NoKey m) NoProperties) tt (λ more. refl))
 
 -- rooms and indents of frames are those of holes
@@ -368,19 +382,22 @@ close_agrees x (PastKey r (FlowPairs p Curly o lead) f t) i =
     same _ _ (PastKey r (FlowPairs p Curly o lead) f t) tt (λ more. refl)
 close_agrees x (PastAsk r (BlockPairs p c lead) q v) i =
     block_ask_agrees x (finish_at x r) r p c lead q v (finish_agrees x r)
-close_agrees x (PastAsk r (FlowPairs p Square o lead) q v) i = square_ask_agrees x (finish_at x r) r p o lead q v
-close_agrees x (PastAsk r (FlowPairs p Curly o lead) q v) i = curly_ask_agrees x (finish_at x r) r p o lead q v
+close_agrees x (PastAsk r (FlowPairs p Square o lead) q v) i =
+    square_ask_agrees x (finish_at x r) (opened_flow r p o lead) q v
+close_agrees x (PastAsk r (FlowPairs p Curly o lead) q v) i =
+    curly_ask_agrees x (finish_at x r) (opened_flow r p o lead) q v
 close_agrees x (PastPair r (BlockPairs p c lead) pair) i =
     block_agrees x (finish_at x r) r p c lead pair (finish_agrees x r)
-close_agrees x (PastPair r (FlowPairs p Curly o lead) pair) i = curly_agrees x (finish_at x r) r p o lead pair
+close_agrees x (PastPair r (FlowPairs p Curly o lead) pair) i =
+    curly_agrees x (finish_at x r) (opened_flow r p o lead) pair
 close_agrees x (PastPair r (FlowPairs p Square o lead) (AskOnly q v e)) i =
-    alone_agrees x (finish_at x r) r p o lead q v e
+    alone_agrees x (finish_at x r) (opened_flow r p o lead) q v e
 close_agrees x (PastPair r (FlowPairs p Square o lead) (WithColon (SimpleKey f k n) m v)) i =
-    key_made_agrees x (finish_at x r) r p o lead f k n m v
+    key_made_agrees x (finish_at x r) (opened_flow r p o lead) f k n m v
 close_agrees x (PastPair r (FlowPairs p Square o lead) (WithColon (Asked q u) m v)) i =
-    asked_agrees x (finish_at x r) r p o lead q u m v
+    asked_agrees x (finish_at x r) (opened_flow r p o lead) q u m v
 close_agrees x (PastPair r (FlowPairs p Square o lead) (WithColon NoKey m v)) i =
-    bare_made_agrees x (finish_at x r) r p o lead m v
+    bare_made_agrees x (finish_at x r) (opened_flow r p o lead) m v
 close_agrees x (PastItem r p Square o lead item) i = same _ _ (PastItem r p Square o lead item) tt (λ more. refl)
 close_agrees x (PastItem r p Curly o lead (Single t)) i =
     same _ _ (PastItem r p Curly o lead (Single t)) tt (λ more. refl)

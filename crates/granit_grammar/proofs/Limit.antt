@@ -80,25 +80,33 @@ abbrev Onto : ℕ → TreeAnswer → (EventState → Type 0) → (OpenPlace → 
 Onto n a P on =
     (q : OpenPlace) → HasOneName q → open_within n q ≡ true → on q ≡ a → P (state_at q) → answer_within n a ≡ true
 
+-- the two machines step alike, whatever was given before and would be refused
+abbrev BothStep : EventStep → NextPlace → Type 0
+BothStep t m = (f : List TreeEvent → List TreeEvent) × (k : GrammarFault) × StepsTo f k t m
+
+step_both :
+    (x : Terminal) (p : OpenPlace) → HasOneName p →
+    BothStep (take_frames (state_at p) x.kind x.at) (take p x.kind x.at)
+step_both x p i = (open_events x.at.start p, fault_kind_at p x.kind, take_agrees p x.kind x.at i)
+
 passes_step :
     (n d : ℕ) (s : TreeAnswer) (P : EventState → Type 0) (on : OpenPlace → TreeAnswer) → Onto n s P on →
-    (f : List TreeEvent → List TreeEvent) (k : GrammarFault) (p : OpenPlace) (x : Terminal)
-    (t : EventStep) (m : NextPlace) →
-    StepsTo f k t m → NextKeeps n true d m → tree_goes m p x on ≡ s → PassesStep (limit_guard n) t x P →
+    (p : OpenPlace) (x : Terminal) (t : EventStep) (m : NextPlace) →
+    BothStep t m → NextKeeps n true d m → tree_goes m p x on ≡ s → PassesStep (limit_guard n) t x P →
     answer_within n s ≡ true
-passes_step n d s P on h f k p x t m (goes_to {st = st} {es = es} {q = q} i e g) keeps r passes =
+passes_step n d s P on h p x t m (f, k, goes_to {st = st} {es = es} {q = q} i e g) keeps r passes =
     h q i (kept_within n d q keeps (passed_count n q (subst (λ st. limit_fault n st ≡ None) e passes.0))) r
     (subst P e passes.1)
-passes_step n d s P on h f k p x t m (stops_at j) keeps r passes = subst (λ a. answer_within n a ≡ true) r refl
+passes_step n d s P on h p x t m (f, k, stops_at j) keeps r passes = subst (λ a. answer_within n a ≡ true) r refl
 
 pub passes_within : (n : ℕ) (s : TreeAnswer) (xs : List Terminal) → Onto n s (Passes (limit_guard n) xs) (parse xs)
 passes_within n s [] p i w r h = subst (λ a. answer_within n a ≡ true) r (end_within n p ∙ w)
 passes_within n s (x ∷ xs) p i w r h =
     let a = close_agrees x p i in
     passes_step n (open_blocks (settle_place x p)) s (Passes (limit_guard n) xs) (parse xs) (passes_within n s xs)
-    (open_events x.at.start (settle_place x p)) (fault_kind_at (settle_place x p) x.kind) (settle_place x p) x
+    (settle_place x p) x
     (take_frames (state_at (settle_place x p)) x.kind x.at) (take (settle_place x p) x.kind x.at)
-    (take_agrees (settle_place x p) x.kind x.at a.is_open)
+    (step_both x (settle_place x p) a.is_open)
     (kept_next n (open_blocks (settle_place x p)) (open_within n (settle_place x p))
     (take (settle_place x p) x.kind x.at)
     (close_keeps n x p ∙ w) (take_keeps n (settle_place x p) x.kind x.at))
@@ -144,16 +152,15 @@ kept_count n d q (stays e c) h b t g = ap (λ k. nat_le k n) c ∙ h
 within_step :
     (n d : ℕ) (s : Stream) (xs : List Terminal) (P : EventState → Type 0) → stream_within n s ≡ true →
     Back n s P (parse xs) →
-    (f : List TreeEvent → List TreeEvent) (k : GrammarFault) (p : OpenPlace) (x : Terminal)
-    (t : EventStep) (m : NextPlace) →
-    nat_le d n ≡ true → StepsTo f k t m → NextKeeps n true d m → tree_goes m p x (parse xs) ≡ ReadAs s →
+    (p : OpenPlace) (x : Terminal) (t : EventStep) (m : NextPlace) →
+    nat_le d n ≡ true → BothStep t m → NextKeeps n true d m → tree_goes m p x (parse xs) ≡ ReadAs s →
     PassesStep (limit_guard n) t x P
-within_step n d s xs P w h f k p x t m le (goes_to {st = st} {es = es} {q = q} i e g) keeps r =
+within_step n d s xs P w h p x t m le (f, k, goes_to {st = st} {es = es} {q = q} i e g) keeps r =
     let c = kept_count n d q keeps le (nat_le (suc d) n) refl (λ o. let b = broken n s xs q o r in cc (b, w)) in (
       subst (λ st. limit_fault n st ≡ None) (sym e) (count_passes n q c),
       subst P (sym e) (h q i (kept_within n d q keeps c) c r),
     )
-within_step n d s xs P w h f k p x t m le (stops_at j) keeps r = tt
+within_step n d s xs P w h p x t m le (f, k, stops_at j) keeps r = tt
 
 pub within_passes :
     (n : ℕ) (s : Stream) → stream_within n s ≡ true → (xs : List Terminal) →
@@ -163,10 +170,10 @@ within_passes n s w (x ∷ xs) p i o le r =
     let a = close_agrees x p i in
     state_closed n (ended_by x (state_at p)) x (state_at (settle_place x p)) (Passes (limit_guard n) xs) a.state_is
     (within_step n (open_blocks (settle_place x p)) s xs (Passes (limit_guard n) xs) w (within_passes n s w xs)
-    (open_events x.at.start (settle_place x p)) (fault_kind_at (settle_place x p) x.kind) (settle_place x p) x
+    (settle_place x p) x
     (take_frames (state_at (settle_place x p)) x.kind x.at) (take (settle_place x p) x.kind x.at)
     (close_most n x p le)
-    (take_agrees (settle_place x p) x.kind x.at a.is_open)
+    (step_both x (settle_place x p) a.is_open)
     (kept_next n (open_blocks (settle_place x p)) (open_within n (settle_place x p))
     (take (settle_place x p) x.kind x.at)
     (close_keeps n x p ∙ o) (take_keeps n (settle_place x p) x.kind x.at))

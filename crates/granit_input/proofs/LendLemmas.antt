@@ -115,12 +115,15 @@ found_is : (bytes : List ℕ) (start : ℕ) (text rest : List ℕ) (n : ℕ) (an
 found_is bytes start text rest n None first last h = tt
 found_is bytes start text rest n (Some part) first last h = part_chars bytes start text rest part.now n first last h
 
+-- where there is a source and the offset is told, the source spells this from there on
+abbrev pub SpelledFrom : Option (List ℕ) → Option ℕ → List ℕ → Type 0
+SpelledFrom source offset text =
+    (bytes : List ℕ) (at : ℕ) → source ≡ Some bytes → offset ≡ Some at → Spells bytes at text
+
 -- what is lent of a source between two places of reading: something exactly where there is a source and the offset is
 -- told, and then what was read between
 pub lent_between : (source : Option (List ℕ)) (start end : Option ℕ) (text rest : List ℕ) (n : ℕ)
-    (answer : Option (Bor (List ℕ)))
-    → ((bytes : List ℕ) (at : ℕ) → source ≡ Some bytes → start ≡ Some at → Spells bytes at text)
-    → ((bytes : List ℕ) (at : ℕ) → source ≡ Some bytes → end ≡ Some at → Spells bytes at rest)
+    (answer : Option (Bor (List ℕ))) → SpelledFrom source start text → SpelledFrom source end rest
     → end ≡ option_map (λ bytes. bytes + utf8_length (take n text)) start → LentBetween source start end answer
     → (is_some answer ≡ (is_some start && is_some source)) × IfSome answer (λ part. chars part.now ≡ take n text)
 lent_between source None end text rest n answer first last far h = (h, none_is answer _ h)

@@ -294,11 +294,16 @@ split_lexeme o l b front rest p es q s y more =
           (quiet o z.state) (sym (but_append y.given z.first)) refl;
     }
 
+-- from every state on
+abbrev AllSplit : OptionsData → List FlaggedItem → List FlaggedItem → ParserState → Type 0
+AllSplit o front rest q =
+    (t : ParserState) (ds : List PlainEvent) → Settled t → feed_all o (front ++ rest) t ≡ Ok (ds, q) →
+    Split o t front rest ds q
+
 split_item : (o : OptionsData) (x : Item) (b : Bool) (front rest : List FlaggedItem) (p : ParserState)
     (es : List PlainEvent) (q : ParserState) → Settled p →
     feed_all o (record { item = x; begins_key = b } ∷ (front ++ rest)) p ≡ Ok (es, q) →
-    ((t : ParserState) (ds : List PlainEvent) → Settled t → feed_all o (front ++ rest) t ≡ Ok (ds, q) →
-    Split o t front rest ds q) → Split o p (record { item = x; begins_key = b } ∷ front) rest es q
+    AllSplit o front rest q → Split o p (record { item = x; begins_key = b } ∷ front) rest es q
 split_item o (OfComment c) b front rest p es q s e more =
     let y = fed_ok o (front ++ rest) (feed o (of_comment c b) (next_line (front ++ rest)) p) es q e in
     split_comment o c b front rest p es q s y (λ t. more y.state y.more t y.rest_is)
@@ -372,11 +377,15 @@ out_last w v e es a h (xs, inr k) = (
 same_waiting : (p : ParserState) (w v : Waiting) → p.waiting ≡ Some w → p.waiting ≡ Some v → w ≡ v
 same_waiting p w v e f = cc (e, f)
 
+-- whatever waits, in every state
+abbrev AllOut : OptionsData → List FlaggedItem → ParserState → Type 0
+AllOut o is q =
+    (v : Waiting) (t : ParserState) (ds : List PlainEvent) → t.waiting ≡ Some v → Settled t →
+    feed_all o is t ≡ Ok (ds, q) → Out v ds
+
 item_out : (o : OptionsData) (x : Item) (b : Bool) (is : List FlaggedItem) (w : Waiting) (p : ParserState)
     (es : List PlainEvent) (q : ParserState) → p.waiting ≡ Some w → Settled p →
-    feed_all o (record { item = x; begins_key = b } ∷ is) p ≡ Ok (es, q) →
-    ((v : Waiting) (t : ParserState) (ds : List PlainEvent) → t.waiting ≡ Some v → Settled t →
-    feed_all o is t ≡ Ok (ds, q) → Out v ds) → Out w es
+    feed_all o (record { item = x; begins_key = b } ∷ is) p ≡ Ok (es, q) → AllOut o is q → Out w es
 item_out o (OfLexeme l) b is w p es q n s e more =
     let y = fed_ok o is (feed o (of_lexeme l b) (next_line is) p) es q e in
     out_more w y.given y.more es y.is (lexeme_out o b l (next_line is) w p y.given y.state n s y.first_is)
@@ -538,22 +547,6 @@ comment_stands o p front back c b es q n g e m =
 
 -- ---- a comment behind a lexeme on its line
 
-lexeme_then : (o : OptionsData) (p : ParserState) (front : List FlaggedItem) (l : Lexeme) (b : Bool) (next : Option ℕ)
-    (first : List PlainEvent) (state : ParserState) (given : List PlainEvent) (t : ParserState) →
-    feed_all o (asked_items false front) (quiet o p) ≡ Ok (but_comments first, quiet o state) →
-    feed o (of_lexeme l b) next state ≡ Ok (given, t) →
-    feed_all o (asked_items false (front ++ (of_lexeme l b ∷ []))) (quiet o p)
-    ≡ Ok (but_comments (first ++ given), quiet o t)
-lexeme_then o p front l b next first state given t e h =
-    let fed =
-    subst (λ r. FedBy o r (feed o (untailed (of_lexeme l b)) None (quiet o state))) h
-    (lexeme_fed o l b next None state) in
-    asked_append o front (of_lexeme l b ∷ []) (quiet o p)
-    ∙ ap (then_feed o (asked_items false (of_lexeme l b ∷ []))) e
-    ∙ ap (λ (r : FeedGiven). with_front (but_comments first) (then_feed o [] r)) fed
-    ∙ ok_pair (but_comments first ++ (but_comments given ++ [])) (but_comments (first ++ given)) (quiet o t) (quiet o t)
-    (ap (λ xs. but_comments first ++ xs) (append-nil (but_comments given)) ∙ sym (but_append first given)) refl
-
 anchors_told : (es : List PlainEvent) → AreAnchors es → but_comments es ≡ es
 anchors_told [] a = refl
 anchors_told (e ∷ es) a =
@@ -598,6 +591,21 @@ module _ (o : OptionsData) (p : ParserState) (front : List FlaggedItem) (l : Lex
     (ends : q.waiting ≡ None) where
   abbrev Up : List FlaggedItem
   Up = front ++ (of_lexeme l b ∷ [])
+
+  lexeme_then : (first : List PlainEvent) (state : ParserState) (given : List PlainEvent) (t : ParserState) →
+      feed_all o (asked_items false front) (quiet o p) ≡ Ok (but_comments first, quiet o state) →
+      feed o (of_lexeme l b) (next_line back) state ≡ Ok (given, t) →
+      feed_all o (asked_items false Up) (quiet o p) ≡ Ok (but_comments (first ++ given), quiet o t)
+  lexeme_then first state given t e h =
+      let fed =
+      subst (λ r. FedBy o r (feed o (untailed (of_lexeme l b)) None (quiet o state))) h
+      (lexeme_fed o l b (next_line back) None state) in
+      asked_append o front (of_lexeme l b ∷ []) (quiet o p)
+      ∙ ap (then_feed o (asked_items false (of_lexeme l b ∷ []))) e
+      ∙ ap (λ (r : FeedGiven). with_front (but_comments first) (then_feed o [] r)) fed
+      ∙ ok_pair (but_comments first ++ (but_comments given ++ [])) (but_comments (first ++ given)) (quiet o t)
+      (quiet o t)
+      (ap (λ xs. but_comments first ++ xs) (append-nil (but_comments given)) ∙ sym (but_append first given)) refl
 
   abbrev Told : PlainEvent
   Told = tail_event l.kind c (next_line back)
@@ -675,7 +683,7 @@ module _ (o : OptionsData) (p : ParserState) (front : List FlaggedItem) (l : Lex
       by given t more h x is rest = on x.tail
         where
           fed : feed_all o (asked_items false Up) (quiet o p) ≡ Ok (but_comments (z.first ++ given), quiet o t)
-          fed = lexeme_then o p front l b (next_line back) z.first z.state given t z.fed h
+          fed = lexeme_then z.first z.state given t z.fed h
 
           all : es ≡ z.first ++ (given ++ more)
           all = z.is ∙ ap (λ ys. z.first ++ ys) is

@@ -42,9 +42,12 @@ rise_rest n i None ks r = r
 rise_rest n i (Some k) ks r = let a = r.0 in let b = r.1 in rise_more k.number n k.start.place.index i ks
     (omega (arith, a)) (omega (arith, b)) r.2
 
-rise_with : (n i : ℕ) (key : Option PossibleKey) (ks less : List PossibleKey)
-    → ((m j : ℕ) → KeysRise m j ks → KeysRise m j less) → KeysRise n i (and_possible key ks)
-    → KeysRise n i (and_possible key less)
+-- below every bound that some keys rise to, others do
+abbrev RisesAs : List PossibleKey → List PossibleKey → Type 0
+RisesAs ks less = (n i : ℕ) → KeysRise n i ks → KeysRise n i less
+
+rise_with : (n i : ℕ) (key : Option PossibleKey) (ks less : List PossibleKey) → RisesAs ks less
+    → KeysRise n i (and_possible key ks) → KeysRise n i (and_possible key less)
 rise_with n i None ks less f r = f n i r
 rise_with n i (Some k) ks less f r = (r.0, r.1, f k.number k.start.place.index r.2)
 
@@ -88,8 +91,8 @@ dropped_rises n i (b ∷ bs) key r = rise_rest n i b.key (keys_inside bs (and_po
 -- ---- stale keys
 
 fresh_rises : (n i : ℕ) (o : OptionsData) (in_flow : Bool) (m : Mark) (key : Option PossibleKey)
-    (ks less : List PossibleKey) → ((m j : ℕ) → KeysRise m j ks → KeysRise m j less)
-    → KeysRise n i (and_possible key ks) → KeysRise n i (and_possible (fresh_key o in_flow m key) less)
+    (ks less : List PossibleKey) → RisesAs ks less → KeysRise n i (and_possible key ks)
+    → KeysRise n i (and_possible (fresh_key o in_flow m key) less)
 fresh_rises n i o in_flow m None ks less f r = f n i r
 fresh_rises n i o in_flow m (Some k) ks less f r = on (is_stale o in_flow m k)
   where
@@ -98,7 +101,7 @@ fresh_rises n i o in_flow m (Some k) ks less f r = on (is_stale o in_flow m k)
     on false = rise_with n i (Some k) ks less f r
 
 fresh_in : (o : OptionsData) (m : Mark) (bs : List OpenBracket) (ks less : List PossibleKey)
-    → ((n i : ℕ) → KeysRise n i ks → KeysRise n i less) → (n i : ℕ) → KeysRise n i (keys_inside bs ks)
+    → RisesAs ks less → (n i : ℕ) → KeysRise n i (keys_inside bs ks)
     → KeysRise n i (keys_inside (map (fresh_bracket o m) bs) less)
 fresh_in o m [] ks less f n i r = f n i r
 fresh_in o m (b ∷ bs) ks less f n i r = fresh_rises n i o true m b.key (keys_inside bs ks)

@@ -122,29 +122,42 @@ row_within row rest front back l b cs a e = on (meet row rest front (of_lexeme l
     on (inr (m, f, g)) = by m f g
 
 -- the last lexeme of a list, and the comments behind it
-record SameEnd (l k : Lexeme) (cs ds : List CommentRead) : Type 0 where
-  lexemes : l ≡ k
-  rows : cs ≡ ds
+record LastRow : Type 0 where
+  lexeme : Lexeme
+  flag : Bool
+  row : List FlaggedItem
+  comments : List CommentRead
+  are : AreComments row comments
+
+abbrev row_items : LastRow → List FlaggedItem
+row_items r = of_lexeme r.lexeme r.flag ∷ r.row
+
+record SameEnd (r s : LastRow) : Type 0 where
+  lexemes : r.lexeme ≡ s.lexeme
+  rows : r.comments ≡ s.comments
 
 lexeme_same : (l k : Lexeme) (b c : Bool) → of_lexeme l b ≡ of_lexeme k c → l ≡ k
 lexeme_same l k b c e = cc (ap (λ (i : FlaggedItem). i.item) e)
 
-same_end : (front others is js : List FlaggedItem) (l k : Lexeme) (b c : Bool) (cs ds : List CommentRead) →
-    AreComments is cs → AreComments js ds → front ++ (of_lexeme l b ∷ is) ≡ others ++ (of_lexeme k c ∷ js) →
-    SameEnd l k cs ds
-same_end [] [] is js l k b c cs ds x y e =
-    let first : of_lexeme l b ≡ of_lexeme k c = cc (e) in
-    let rest : is ≡ js = cc (e) in
-    record { lexemes = lexeme_same l k b c first; rows = same_comments is js cs ds x y rest }
-same_end [] (o ∷ others) is js l k b c cs ds x y e =
-    let rest : is ≡ others ++ (of_lexeme k c ∷ js) = cc (e) in
-    absurd (never_lexeme others js k c cs (subst (λ is. AreComments is cs) rest x))
-same_end (f ∷ front) [] is js l k b c cs ds x y e =
-    let rest : js ≡ front ++ (of_lexeme l b ∷ is) = cc (e) in
-    absurd (never_lexeme front is l b ds (subst (λ is. AreComments is ds) rest y))
-same_end (f ∷ front) (o ∷ others) is js l k b c cs ds x y e =
-    let rest : front ++ (of_lexeme l b ∷ is) ≡ others ++ (of_lexeme k c ∷ js) = cc (e) in
-    same_end front others is js l k b c cs ds x y rest
+same_end : (front others : List FlaggedItem) (r s : LastRow) → front ++ row_items r ≡ others ++ row_items s →
+    SameEnd r s
+same_end [] [] r s e =
+    let first : of_lexeme r.lexeme r.flag ≡ of_lexeme s.lexeme s.flag = cc (e) in
+    let rest : r.row ≡ s.row = cc (e) in
+    record {
+      lexemes = lexeme_same r.lexeme s.lexeme r.flag s.flag first;
+      rows = same_comments r.row s.row r.comments s.comments r.are s.are rest;
+    }
+same_end [] (o ∷ others) r s e =
+    let rest : r.row ≡ others ++ row_items s = cc (e) in
+    absurd
+    (never_lexeme others s.row s.lexeme s.flag r.comments (subst (λ is. AreComments is r.comments) rest r.are))
+same_end (f ∷ front) [] r s e =
+    let rest : s.row ≡ front ++ row_items r = cc (e) in
+    absurd (never_lexeme front r.row r.lexeme r.flag s.comments (subst (λ is. AreComments is s.comments) rest s.are))
+same_end (f ∷ front) (o ∷ others) r s e =
+    let rest : front ++ row_items r ≡ others ++ row_items s = cc (e) in
+    same_end front others r s rest
 
 -- ---- rows in more items
 
@@ -284,8 +297,15 @@ module _ (o : OptionsData) (start : ParserState) where
       full : (w : Waiting) → RowBehind o before w.room → ⊥
       full w b =
           let same =
-          same_end r.front b.front r.row.row b.row r.row.lexeme b.lexeme r.row.flag b.flag r.row.comments b.comments
-          r.row.are b.are (e ∙ b.is) in
+          same_end r.front b.front
+          (record {
+            lexeme = r.row.lexeme;
+            flag = r.row.flag;
+            row = r.row.row;
+            comments = r.row.comments;
+            are = r.row.are;
+          })
+          (record { lexeme = b.lexeme; flag = b.flag; row = b.row; comments = b.comments; are = b.are }) (e ∙ b.is) in
           let rows : tail_comments b.lexeme.tail ++ b.comments ≡ r.row.kept ++ (r.row.one ∷ []) =
           sym (ap (λ (l : Lexeme). tail_comments l.tail ++ r.row.comments) same.lexemes
           ∙ ap (λ cs. tail_comments b.lexeme.tail ++ cs) same.rows)

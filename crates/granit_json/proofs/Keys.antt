@@ -1,6 +1,6 @@
 -- A name of JSON and the colon behind it are read: the colon finds its key.
-use Rattle.std.proofs.Common.{Bool, List, Option, [], ap, arith, false, length, refl, subst, sym, true, ℕ}
-use Rattle.std.proofs.Common.{◌&&◌, ◌+◌, ◌++◌, ◌-◌, ◌==◌, ◌||◌, ◌∙◌, ◌∷◌, ◌≡◌, ◌≤◌}
+use Rattle.std.proofs.Common.{Bool, List, Option, [], ap, arith, false, length, refl, subst, sym, true, ℕ, ◌&&◌, ◌+◌}
+use Rattle.std.proofs.Common.{◌++◌, ◌-◌, ◌==◌, ◌||◌, ◌∙◌, ◌∷◌, ◌≡◌, ◌≤◌}
 use Rattle.std.proofs.lemmas.List.{length-append}
 use Rattle.std.specs.Prelude.{None, Some, if◌then◌else◌}
 use Rattle.granit_base.specs.Classes.{is_blank, is_blank_or_breakz, is_break, is_flow, is_gap, is_printable}
@@ -9,9 +9,8 @@ use Rattle.granit_base.specs.Written.{Written}
 use Rattle.granit_base.specs.declared.style.ScalarStyle.TheVariants.{DoubleQuoted}
 use Rattle.granit_canonical.proofs.Calm.{Calm, Mild, calm_behind, calm_closed, calm_fresh, calm_gap, gap_opener}
 use Rattle.granit_canonical.proofs.Calm.{none_overdue}
-use Rattle.granit_canonical.proofs.Places.{Before, Held, Starts, gap_stops, gap_to, held_on, past_all}
-use Rattle.granit_canonical.proofs.Places.{stepped_text}
-use Rattle.granit_canonical.proofs.Taking.{begins_text, begins_with, is_mark}
+use Rattle.granit_canonical.proofs.Places.{Before, Held, Starts, gap_stops, gap_to, held_on, past_all, stepped_text}
+use Rattle.granit_canonical.proofs.Taking.{begins_text, begins_with, is_mark, LexemeRead}
 use Rattle.granit_canonical.specs.Canonical.{spot, stretch}
 use Rattle.granit_error.specs.OptionsData.{OptionsData}
 use Rattle.granit_json.proofs.Gaps.{mark_starts, tail_past}
@@ -24,12 +23,12 @@ use Rattle.granit_json.specs.JsonScalars.{IsString}
 use Rattle.granit_language.specs.Allowed.{MayPrefix}
 use Rattle.granit_language.specs.Before.{behind, behind_colon, freshened, in_front, last_of_colon}
 use Rattle.granit_language.specs.Begins.{Begins, colon}
-use Rattle.granit_language.specs.Reached.{Reads, ends_column_by, of_lexeme}
+use Rattle.granit_language.specs.Reached.{ends_column_by, of_lexeme}
 use Rattle.granit_language.specs.Standing.{ColonFits, in_front_of_lexeme, key_start}
 use Rattle.granit_language.specs.Stretch.{TailIf}
 use Rattle.granit_lexemes.specs.Gap.{Each, IsGap}
 use Rattle.granit_lexemes.specs.Here.{Here, mark_of, next_char, step}
-use Rattle.granit_lexemes.specs.Lexeme.{Colon, Lexeme, OfLexeme, Scalar}
+use Rattle.granit_lexemes.specs.Lexeme.{Colon, Lexeme, Scalar}
 use Rattle.granit_lexemes.specs.PlainExtent.{over}
 use Rattle.granit_lexemes.specs.declared.layout.Bracket.{Bracket}
 use Rattle.granit_lexemes.specs.declared.layout.Bracket.TheVariants.{Curly}
@@ -48,13 +47,9 @@ use Rattle.granit_machine.specs.ReaderState.{ReaderState, sign_lexeme}
 -- a name that is read, with all that stands up to its colon
 pub record NameRead (o : OptionsData) (x from to rest : List ℕ) (text : Written) (bs : List Bracket)
     (s : ReaderState) : Type 0 where
-  pub lexeme : Lexeme
-  pub after : ReaderState
+  pub read : LexemeRead o (Scalar DoubleQuoted text) None s
+  pub open read use *
   pub key : PossibleKey
-  pub reads : Reads o s (OfLexeme lexeme ∷ []) after
-  pub kind_is : lexeme.kind ≡ Scalar DoubleQuoted text
-  pub key_is : lexeme.key ≡ None
-  pub tail_is : lexeme.tail ≡ None
   pub indent_is : lexeme.indent ≡ None
   pub shown_is : lexeme.shown ≡ stretch x from to
   pub number_is : lexeme.number ≡ key.number
@@ -138,25 +133,27 @@ module _ (o : OptionsData) (x : List ℕ) where
       } in
       let st = quote_starts (source ++ 0x22 ∷ (g ++ 0x3A ∷ more)) in
       record {
-        lexeme = q.lexeme;
-        after = freshened o q.behind;
-        key = key;
-        reads = of_lexeme at q.behind (Placed (QuoteSign false))
-            (record {
-              gap = in_front_of_lexeme h (record {
-                gap = b.gap;
-                over = gap_to (MayPrefix s.laid) b.gap from s.here b.text b.is_gap;
-                stops = gap_stops (MayPrefix s.laid) from h p.text st;
+        read = record {
+          lexeme = q.lexeme;
+          after = freshened o q.behind;
+          reads = of_lexeme at q.behind (Placed (QuoteSign false))
+              (record {
+                gap = in_front_of_lexeme h (record {
+                  gap = b.gap;
+                  over = gap_to (MayPrefix s.laid) b.gap from s.here b.text b.is_gap;
+                  stops = gap_stops (MayPrefix s.laid) from h p.text st;
+                })
+                    (ap (λ (l : List ℕ). first l == 0x23) p.text ∙ st.no_comment) (open_tabs o s.laid h c.columns)
+                    (open_cut s.laid h c.cut);
+                keys = none_overdue o (Curly ∷ bs) at calm;
+                begins = q.begins;
               })
-                  (ap (λ (l : List ℕ). first l == 0x23) p.text ∙ st.no_comment) (open_tabs o s.laid h c.columns)
-                  (open_cut s.laid h c.cut);
-              keys = none_overdue o (Curly ∷ bs) at calm;
-              begins = q.begins;
-            })
-            q.given (named_due o bs key q.behind left);
-        kind_is = q.kind_is;
-        key_is = q.key_is;
-        tail_is = q.tail_is;
+              q.given (named_due o bs key q.behind left);
+          kind_is = q.kind_is;
+          key_is = q.key_is;
+          tail_is = q.tail_is;
+        };
+        key = key;
         indent_is = q.indent_is;
         shown_is = q.shown_is;
         number_is = q.number_is;
@@ -172,12 +169,8 @@ module _ (o : OptionsData) (x : List ℕ) where
 
 pub record ColonRead (o : OptionsData) (x from rest : List ℕ) (bs : List Bracket) (key : PossibleKey)
     (s : ReaderState) : Type 0 where
-  pub lexeme : Lexeme
-  pub after : ReaderState
-  pub reads : Reads o s (OfLexeme lexeme ∷ []) after
-  pub kind_is : lexeme.kind ≡ Colon
-  pub key_is : lexeme.key ≡ Some (start_of_key key)
-  pub tail_is : lexeme.tail ≡ None
+  pub read : LexemeRead o Colon (Some (start_of_key key)) s
+  pub open read use *
   pub before : Before x rest after.here
   pub calm : Calm (Curly ∷ bs) after.laid
   pub opener : is_opener after.laid.last ≡ false
@@ -282,38 +275,40 @@ module _ (o : OptionsData) (x : List ℕ) where
       (behind_colon (is_in_flow l) (top_key l) h l) (colon_left bs k h l (is_in_flow l) (top_key l) flow top m) in
       let cs = mark_starts 0x3A (g ++ rest) refl in
       record {
-        lexeme = y;
-        after = freshened o left;
-        reads = of_lexeme at left (Placed ColonSign)
-            (record {
-              gap = in_front_of_lexeme h (record {
-                gap = [];
-                over = gap_to (MayPrefix s.laid) [] from h e tt;
-                stops = gap_stops (MayPrefix s.laid) from h e cs;
-              })
-                  (ap (λ (l : List ℕ). first l == 0x23) e ∙ cs.no_comment) (open_tabs o s.laid h n.columns)
-                  (open_cut s.laid h n.cut);
-              keys = named_due o bs k at named;
-              begins = begins_text t from (Placed ColonSign) e
-                  (colon_begins (is_in_flow t.laid) (is_adjacent t.laid.last) h.place.column (g ++ rest)
-                  (named_flow bs k t.laid fresh) (ap is_adjacent last));
-            }) (
-              open_inside o ColonSign h l (record { columns = m.columns; cut = m.cut }),
-              (
-                record {
-                  apart = λ other b. absurd (other last);
-                  tail = None;
-                  tailed = z.tail;
-                  fits = colon_fits bs k h l (is_in_flow l) (top_key l) flow top m low;
-                  is = refl;
-                },
-                refl,
-              ),
-            )
-            (none_overdue o (Curly ∷ bs) left calm);
-        kind_is = refl;
-        key_is = ap key_start top;
-        tail_is = refl;
+        read = record {
+          lexeme = y;
+          after = freshened o left;
+          reads = of_lexeme at left (Placed ColonSign)
+              (record {
+                gap = in_front_of_lexeme h (record {
+                  gap = [];
+                  over = gap_to (MayPrefix s.laid) [] from h e tt;
+                  stops = gap_stops (MayPrefix s.laid) from h e cs;
+                })
+                    (ap (λ (l : List ℕ). first l == 0x23) e ∙ cs.no_comment) (open_tabs o s.laid h n.columns)
+                    (open_cut s.laid h n.cut);
+                keys = named_due o bs k at named;
+                begins = begins_text t from (Placed ColonSign) e
+                    (colon_begins (is_in_flow t.laid) (is_adjacent t.laid.last) h.place.column (g ++ rest)
+                    (named_flow bs k t.laid fresh) (ap is_adjacent last));
+              }) (
+                open_inside o ColonSign h l (record { columns = m.columns; cut = m.cut }),
+                (
+                  record {
+                    apart = λ other b. absurd (other last);
+                    tail = None;
+                    tailed = z.tail;
+                    fits = colon_fits bs k h l (is_in_flow l) (top_key l) flow top m low;
+                    is = refl;
+                  },
+                  refl,
+                ),
+              )
+              (none_overdue o (Curly ∷ bs) left calm);
+          kind_is = refl;
+          key_is = ap key_start top;
+          tail_is = refl;
+        };
         before = z.before;
         calm = calm_fresh o (mark_of left.here) (Curly ∷ bs) left.laid calm;
         opener = colon_opener (is_in_flow l) (top_key l);

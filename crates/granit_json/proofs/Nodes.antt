@@ -117,30 +117,30 @@ pub record NodeRead (o : OptionsData) (x : List ℕ) (bs : List Bracket) (rest :
       → event_told o (bare_document_start (first_terminal node).kind (first_terminal node).at) ++ es
       ≡ event_at (plain.DocumentStart false None) source ∷ es
 
-pub scalar_read : (o : OptionsData) (x : List ℕ) (style : ScalarStyle) (text : Written) (bs : List Bracket)
-    (front back rest from to : List ℕ) (s : ReaderState)
-    → OneRead o x bs (lexemes.Scalar style text) front back rest false s → front ≡ from → back ≡ to
-    → NodeRead o x bs rest s (λ es. event_at (scalar_of style text) (stretch x from to) ∷ es) (stretch x from to)
-    (spot x to)
-scalar_read o x style text bs front back rest from to s r p q =
-    let shown : r.lexeme.shown ≡ stretch x from to = r.shown_is ∙ ap₂ (stretch x) p q in
-    record {
-      after = r.after;
-      node = ScalarNode NoProperties style text (at_of false no_scope r.lexeme);
-      passage = passage_one o x bs (lexemes.Scalar style text) front back rest false s r refl refl refl;
-      before = r.before;
-      calm = r.calm;
-      opener = r.opener;
-      placed = λ room h y. (
-        tt,
-        plain_fits room h (Scalar style text) (record { count = 0; names = [] }) r.lexeme,
-      );
-      within = λ n d b. refl;
-      told = λ more. scalar_told o style text false r.lexeme (stretch x from to) shown r.indent_is
-          (events_told o more);
-      ends = end_of r.lexeme.shown (stretch x from to) shown;
-      starts = starts_told o (Scalar style text) r.lexeme (stretch x from to) shown r.indent_is;
-    }
+module _ (o : OptionsData) (x : List ℕ) where
+  -- a scalar that shows this stretch of the text
+  pub scalar_read : (style : ScalarStyle) (text : Written) (bs : List Bracket) (from to rest : List ℕ)
+      (s : ReaderState) (source : Source) → OneRead o x bs (lexemes.Scalar style text) from to rest false s
+      → stretch x from to ≡ source
+      → NodeRead o x bs rest s (λ es. event_at (scalar_of style text) source ∷ es) source source.end
+  scalar_read style text bs from to rest s source r e =
+      let shown = r.shown_is ∙ e in
+      record {
+        after = r.after;
+        node = ScalarNode NoProperties style text (at_of false no_scope r.lexeme);
+        passage = passage_one o (lexemes.Scalar style text) s r.read refl refl refl;
+        before = r.before;
+        calm = r.calm;
+        opener = r.opener;
+        placed = λ room h y. (
+          tt,
+          plain_fits room h (Scalar style text) (record { count = 0; names = [] }) r.lexeme,
+        );
+        within = λ n d b. refl;
+        told = λ more. scalar_told o style text false r.lexeme source shown r.indent_is (events_told o more);
+        ends = end_of r.lexeme.shown source shown;
+        starts = starts_told o (Scalar style text) r.lexeme source shown r.indent_is;
+      }
 
 -- what is read between brackets
 pub record Contents (o : OptionsData) (x : List ℕ) (b : Bracket) (bs : List Bracket) (closing : List ℕ)
@@ -182,20 +182,21 @@ pub record Front (from : List ℕ) : Type 0 where
   pub starts : Starts start
 
 module _ (o : OptionsData) (x : List ℕ) where
-  pub flow_read : (b : Bracket) (bs : List Bracket) (from inside g to rest : List ℕ) (f : Front inside)
-      (s : ReaderState) (tell : List PlainEvent → List PlainEvent) → from ≡ opener_char b ∷ inside → to ≡ g ++ rest
-      → IsGap g → Starts rest → length bs < o.flow_nesting_limit → Before x from s.here → Calm bs s.laid
-      → Fine bs s.laid.last
+  pub flow_read : (b : Bracket) (bs : List Bracket) (from inside to : List ℕ) (f : Front inside) (r : Front to)
+      (s : ReaderState) (tell : List PlainEvent → List PlainEvent) → from ≡ opener_char b ∷ inside
+      → length bs < o.flow_nesting_limit → Before x from s.here → Calm bs s.laid → Fine bs s.laid.last
       → ((u : ReaderState) → Before x f.start u.here → Calm (b ∷ bs) u.laid → is_opener u.laid.last ≡ true
       → Contents o x b bs (closer_char b ∷ to) u tell)
-      → NodeRead o x bs rest s
+      → NodeRead o x bs r.start s
       (λ es. event_at (starting b) (stretch x from inside)
       ∷ tell (event_at (ending b) (stretch x (closer_char b ∷ to) to) ∷ es)) (stretch x from inside) (spot x to)
-  flow_read b bs from inside g to rest f s tell e w i st room before calm fine contents =
+  flow_read b bs from inside to f r s tell e room before calm fine contents =
+      let g = r.white in
+      let rest = r.start in
       let own = opener_char b ∷ (f.white ++ f.start) in
       let behind = closer_char b ∷ (g ++ rest) in
       let open_is : own ≡ from = ap (λ (l : List ℕ). opener_char b ∷ l) (sym f.is) ∙ sym e in
-      let close_is : behind ≡ closer_char b ∷ to = ap (λ (l : List ℕ). closer_char b ∷ l) (sym w) in
+      let close_is : behind ≡ closer_char b ∷ to = ap (λ (l : List ℕ). closer_char b ∷ l) (sym r.is) in
       let q = reads_one o x bs (b ∷ bs) (sorts.Placed (sorts.OpenSign b)) (lexemes.Open b) own (f.white ++ f.start)
       f.start true s (subst (λ (l : List ℕ). Before x l s.here) (sym open_is) before) calm
       (opener_starts b (f.white ++ f.start))
@@ -204,14 +205,15 @@ module _ (o : OptionsData) (x : List ℕ) where
       let k = contents q.after q.before q.calm q.opener in
       let z = reads_one o x (b ∷ bs) bs (sorts.Placed (sorts.CloseSign b)) (lexemes.Close b) behind (g ++ rest) rest
       false k.after (subst (λ (l : List ℕ). Before x l k.after.here) (sym close_is) k.before) k.calm
-      (closer_starts b (g ++ rest)) (λ t h e c f. takes_closer o x bs b g rest t i st h e c) in
+      (closer_starts b (g ++ rest)) (λ t h e c f. takes_closer o x bs b g rest t r.gap r.starts h e c) in
       let shown : q.lexeme.shown ≡ stretch x from inside = q.shown_is ∙ ap₂ (stretch x) open_is (sym f.is) in
-      let shut : z.lexeme.shown ≡ stretch x (closer_char b ∷ to) to = z.shown_is ∙ ap₂ (stretch x) close_is (sym w) in
+      let shut : z.lexeme.shown ≡ stretch x (closer_char b ∷ to) to =
+      z.shown_is ∙ ap₂ (stretch x) close_is (sym r.is) in
       let shut_at : z.lexeme.start ≡ spot x (closer_char b ∷ to) = z.start_is ∙ ap (spot x) close_is in
       let m = at_of false no_scope q.lexeme in
       let n = at_of false no_scope z.lexeme in
-      let first = passage_one o x (b ∷ bs) (lexemes.Open b) own (f.white ++ f.start) f.start true s q refl refl refl in
-      let second = passage_one o x bs (lexemes.Close b) behind (g ++ rest) rest false k.after z refl refl refl in
+      let first = passage_one o (lexemes.Open b) s q.read refl refl refl in
+      let second = passage_one o (lexemes.Close b) k.after z.read refl refl refl in
       let opened_by = λ (more : List Terminal). terminal (Part (Open b)) m ∷ more in
       let closed_by = λ (more : List Terminal). terminal (Close b) n ∷ more in
       let between = λ (more : List Terminal). spell_flow k.lead (spell_last k.last more) in

@@ -1,23 +1,20 @@
 -- Lexemes of JSON text in order, with those that begin keys, and how the grammar sees them.
-use Rattle.std.proofs.Common.{Bool, List, Option, [], ap, append_assoc, ap₂, arith, false, map, refl, subst, sym}
-use Rattle.std.proofs.Common.{true, ℕ}
+use Rattle.granit_lexemes.specs.Lexeme as lexemes
+use Rattle.std.proofs.Common.{List, Option, [], ap, append_assoc, ap₂, arith, false, map, refl, subst, sym, true, ℕ}
 use Rattle.std.proofs.Common.{◌++◌, ◌==◌, ◌∙◌, ◌∷◌, ◌≡◌}
 use Rattle.std.proofs.lemmas.Bool.Decides.{nat_tests}
 use Rattle.std.specs.Prelude.{None, Some}
 use Rattle.granit_base.specs.Written.{Written}
 use Rattle.granit_base.specs.declared.style.ScalarStyle.TheVariants.{DoubleQuoted}
 use Rattle.granit_canonical.proofs.Passing.{means_append, scoped_append}
-use Rattle.granit_canonical.proofs.Taking.{OneRead}
+use Rattle.granit_canonical.proofs.Taking.{LexemeRead}
 use Rattle.granit_error.specs.OptionsData.{OptionsData}
-use Rattle.granit_json.proofs.Keys.{ColonRead, NameRead}
 use Rattle.granit_language.specs.Reached.{ReadWhole, Reads, whole_ends, whole_goes_on}
 use Rattle.granit_language.specs.Scope.{Scope, no_scope}
 use Rattle.granit_language.specs.Scoping.{Means, next_scope, scope_behind, scope_fault, scoped}
-use Rattle.granit_language.specs.Seen.{Flagged, at_of, lexemes_flagged, terminal_kind, terminal_seen}
-use Rattle.granit_language.specs.Seen.{terminals_of}
+use Rattle.granit_language.specs.Seen.{Flagged, at_of, lexemes_flagged, terminal_kind, terminal_seen, terminals_of}
 use Rattle.granit_language.specs.Terminal.{Colon, Part, Scalar, Terminal, TerminalKind, terminal}
 use Rattle.granit_lexemes.specs.Lexeme.{Item, KeyStart, Lexeme, LexemeKind, OfLexeme}
-use Rattle.granit_lexemes.specs.declared.layout.Bracket.{Bracket}
 use Rattle.granit_machine.specs.Lexing.{FlaggedItem, Flagging, and_key, flag_item, flag_lexeme, flagged, flagging}
 use Rattle.granit_machine.specs.Lexing.{is_nearest}
 use Rattle.granit_machine.specs.Reader.{is_end_kind}
@@ -89,12 +86,11 @@ passage_then o s t u f g p q =
     }
 
 -- one lexeme that declares nothing
-pub passage_one : (o : OptionsData) (x : List ℕ) (bs : List Bracket) (kind : LexemeKind) (from to rest : List ℕ)
-    (v : Bool) (s : ReaderState) → (r : OneRead o x bs kind from to rest v s) → is_end_kind kind ≡ false
-    → next_scope (terminal_kind kind None) no_scope ≡ no_scope
+pub passage_one : (o : OptionsData) (kind : LexemeKind) (s : ReaderState) → (r : LexemeRead o kind None s)
+    → is_end_kind kind ≡ false → next_scope (terminal_kind kind None) no_scope ≡ no_scope
     → scope_fault o (terminal_kind kind None) no_scope ≡ None
     → Passage o s (λ more. terminal (terminal_kind kind None) (at_of false no_scope r.lexeme) ∷ more) r.after
-passage_one o x bs kind from to rest v s r n p q =
+passage_one o kind s r n p q =
     let l = r.lexeme in
     let same : terminal_kind l.kind l.key ≡ terminal_kind kind None = ap₂ terminal_kind r.kind_is r.key_is in
     record {
@@ -105,24 +101,23 @@ passage_one o x bs kind from to rest v s r n p q =
       spelled = λ more. ap (λ (k : TerminalKind). terminal k (at_of false no_scope l) ∷ more) (sym same);
     }
 
--- a name and its colon
-pub passage_name : (o : OptionsData) (x from to rest from_colon rest_colon : List ℕ) (text : Written)
-    (bs : List Bracket) (s : ReaderState) → (r : NameRead o x from to rest text bs s)
-    → (q : ColonRead o x from_colon rest_colon bs r.key r.after)
+-- a name and its colon, whose key begins there
+pub passage_name : (o : OptionsData) (text : Written) (key : KeyStart) (s : ReaderState)
+    → (r : LexemeRead o (lexemes.Scalar DoubleQuoted text) None s)
+    → (q : LexemeRead o lexemes.Colon (Some key) r.after) → key.number ≡ r.lexeme.number
     → Passage o s (λ more. terminal (Part (Scalar DoubleQuoted text)) (at_of true no_scope r.lexeme)
-    ∷ terminal (Colon (Some r.key.number)) (at_of false no_scope q.lexeme) ∷ more) q.after
-passage_name o x from to rest from_colon rest_colon text bs s r q =
+    ∷ terminal (Colon (Some key.number)) (at_of false no_scope q.lexeme) ∷ more) q.after
+passage_name o text key s r q number =
     let l = r.lexeme in
     let m = q.lexeme in
     let name_kind = Part (Scalar DoubleQuoted text) in
-    let colon_kind = Colon (Some r.key.number) in
+    let colon_kind = Colon (Some key.number) in
     let a : terminal_kind l.kind l.key ≡ name_kind = ap₂ terminal_kind r.kind_is r.key_is in
     let b : terminal_kind m.kind m.key ≡ colon_kind = ap₂ terminal_kind q.kind_is q.key_is in
     record {
       lexemes = (l, true) ∷ (m, false) ∷ [];
-      lexed = and_name l m r.after q.after (record { number = r.key.number; start = r.key.start }) r.reads q.reads
-          (ap is_end_kind r.kind_is) (ap is_end_kind q.kind_is) r.key_is q.key_is (sym r.number_is) r.tail_is
-          q.tail_is no_lexeme;
+      lexed = and_name l m r.after q.after key r.reads q.reads (ap is_end_kind r.kind_is) (ap is_end_kind q.kind_is)
+          r.key_is q.key_is number r.tail_is q.tail_is no_lexeme;
       scope = ap₂ (λ (k n : TerminalKind). next_scope n (next_scope k no_scope)) a b;
       means = (
         ap (λ (k : TerminalKind). scope_fault o k no_scope) a,

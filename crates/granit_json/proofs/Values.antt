@@ -2,7 +2,7 @@
 use Rattle.granit_lexemes.specs.Lexeme as lexemes
 use Rattle.granit_machine.specs.LexemeSort as sorts
 use Rattle.std.proofs.Common.{Bool, List, [], ap, arith, drop, false, length, max, refl, subst, suc, sym, true, zero, ℕ}
-use Rattle.std.proofs.Common.{◌+◌, ◌++◌, ◌∙◌, ◌∷◌, ◌≡◌, ◌≤◌}
+use Rattle.std.proofs.Common.{◌+◌, ◌++◌, ◌∙◌, ◌∷◌, ◌≡◌, ◌≤◌, ap₂}
 use Rattle.std.proofs.Math.Nat.{le-max_left, le-max_right}
 use Rattle.std.specs.Prelude.{None, Some}
 use Rattle.granit_base.specs.Classes.{is_printable}
@@ -29,10 +29,10 @@ use Rattle.granit_json.proofs.Strings.{each_behind, each_front}
 use Rattle.granit_json.specs.Json.{Elements, Json, Members, elements_depth, json_depth, members_depth}
 use Rattle.granit_json.specs.JsonEvents.{element_events, first_source, member_events, members_events, part_events}
 use Rattle.granit_json.specs.JsonEvents.{scalar_of, string_text, value_events}
-use Rattle.granit_json.specs.JsonText.{ElementNamesFit, ElementsText, MemberNamesFit, MemberText, MembersText}
-use Rattle.granit_json.specs.JsonText.{NameFits, NamesFit, PartText, ValueNamesFit, ValueText, bare, elements, member}
-use Rattle.granit_json.specs.JsonText.{members, next_element, next_member, no_elements, no_members, one_element}
-use Rattle.granit_json.specs.JsonText.{one_member, part, text}
+use Rattle.granit_json.specs.JsonText.{ElementNamesFit, ElementsText, MemberNamesFit, MemberText, MembersText, NameFits}
+use Rattle.granit_json.specs.JsonText.{NamesFit, PartText, ValueNamesFit, ValueText, bare, elements, member, members}
+use Rattle.granit_json.specs.JsonText.{next_element, next_member, no_elements, no_members, one_element, one_member}
+use Rattle.granit_json.specs.JsonText.{part, text}
 use Rattle.granit_language.specs.Node.{AfterItem, FlowLead, Just, LastItem, NoItem, NoProperties, Node, Pair, Paired}
 use Rattle.granit_language.specs.Node.{ScalarNode, SimpleKey, Single, WithColon}
 use Rattle.granit_language.specs.Placed.{FlowPlaced, PairPlaced, Placed}
@@ -53,6 +53,7 @@ use Rattle.granit_lexemes.specs.declared.layout.Bracket.{Bracket}
 use Rattle.granit_lexemes.specs.declared.layout.Bracket.TheVariants.{Curly, Square}
 use Rattle.granit_machine.specs.Laid.{is_opener}
 use Rattle.granit_machine.specs.ReaderState.{ReaderState}
+use Rattle.granit_machine.specs.PossibleKeys.{start_of_key}
 
 most_both : (a b n m : ℕ) → max a b + n ≤ m → (a + n ≤ m) × (b + n ≤ m)
 most_both a b n m h = (omega (arith, h, le-max_left a b), omega (arith, h, le-max_right a b))
@@ -134,6 +135,12 @@ abbrev lone_front : (b : Bracket) (white to : List ℕ) → IsGap white → Fron
 lone_front b white to i =
     record { white = white; start = closer_char b ∷ to; is = refl; gap = i; starts = closer_starts b to }
 
+-- the gap behind a value
+abbrev rear_front : {bs : List Bracket} {to : List ℕ} (g rest : List ℕ) → to ≡ g ++ rest → IsGap g → Ends bs rest
+    → Front to
+rear_front g rest is i ends =
+    record { white = g; start = rest; is = is; gap = i; starts = ends_start ends }
+
 module _ (o : OptionsData) (x : List ℕ) (prints : Each is_printable x) where
   mutual
     pub value_read : {t : Json} {from to : List ℕ} (d : ValueText t from to) (bs : List Bracket) (g rest : List ℕ)
@@ -151,7 +158,8 @@ module _ (o : OptionsData) (x : List ℕ) (prints : Each is_printable x) where
         (quote_starts (source ++ 0x22 ∷ (g ++ rest)))
         (λ t h e c q. takes_string o x bs source chars g rest t is inside i ends h e c
         (fine_as bs s.laid.last t.laid.last q fine)) in
-        scalar_read o x DoubleQuoted (string_text source chars) bs own (g ++ rest) rest from to s r (sym same) (sym w)
+        scalar_read o x DoubleQuoted (string_text source chars) bs own (g ++ rest) rest s (stretch x from to) r
+        (ap₂ (stretch x) (sym same) (sym w))
     value_read (bare {characters = chars} {from = from} {to = to} b e) bs g rest s i w ends deep fit before calm fine =
         let own = chars ++ (g ++ rest) in
         let same : from ≡ own = e ∙ ap (λ (l : List ℕ). chars ++ l) w in
@@ -160,13 +168,14 @@ module _ (o : OptionsData) (x : List ℕ) (prints : Each is_printable x) where
         (g ++ rest) rest false s here calm (sound_starts chars (g ++ rest) (sound chars b))
         (λ t h e c q. takes_bare o x bs chars g rest t (sound chars b) i ends h e c
         (fine_as bs s.laid.last t.laid.last q fine)) in
-        scalar_read o x Plain (lent chars) bs own (g ++ rest) rest from to s r (sym same) (sym w)
+        scalar_read o x Plain (lent chars) bs own (g ++ rest) rest s (stretch x from to) r
+        (ap₂ (stretch x) (sym same) (sym w))
     value_read (no_elements {from = from} {to = to} white is e) bs g rest s i w ends deep fit before calm fine =
-        flow_read o x Square bs from (white ++ 0x5D ∷ to) g to rest (lone_front Square white to (whites_gap white is)) s
-        (λ es. es) e w i (ends_start ends) (omega (arith, deep)) before calm fine
+        flow_read o x Square bs from (white ++ 0x5D ∷ to) to (lone_front Square white to (whites_gap white is))
+        (rear_front g rest w i ends) s (λ es. es) e (omega (arith, deep)) before calm fine
         (λ u b c v. no_contents o x Square bs (0x5D ∷ to) u b c)
     value_read (elements {es = es} {from = from} {to = to} inside e d) bs g rest s i w ends deep fit before calm fine =
-        flow_read o x Square bs from inside g to rest (element_front d) s (element_events x d) e w i (ends_start ends)
+        flow_read o x Square bs from inside to (element_front d) (rear_front g rest w i ends) s (element_events x d) e
         (omega (arith, deep)) before calm fine
         (λ u b c v.
         let k = elements_read d bs u (square_ends Square bs to) (omega (arith, deep)) fit b c in
@@ -183,11 +192,11 @@ module _ (o : OptionsData) (x : List ℕ) (prints : Each is_printable x) where
           told = λ i more. k.told more;
         })
     value_read (no_members {from = from} {to = to} white is e) bs g rest s i w ends deep fit before calm fine =
-        flow_read o x Curly bs from (white ++ 0x7D ∷ to) g to rest (lone_front Curly white to (whites_gap white is)) s
-        (λ es. es) e w i (ends_start ends) (omega (arith, deep)) before calm fine
+        flow_read o x Curly bs from (white ++ 0x7D ∷ to) to (lone_front Curly white to (whites_gap white is))
+        (rear_front g rest w i ends) s (λ es. es) e (omega (arith, deep)) before calm fine
         (λ u b c v. no_contents o x Curly bs (0x7D ∷ to) u b c)
     value_read (members {ms = ms} {from = from} {to = to} inside e d) bs g rest s i w ends deep fit before calm fine =
-        flow_read o x Curly bs from inside g to rest (members_front d) s (members_events x d) e w i (ends_start ends)
+        flow_read o x Curly bs from inside to (members_front d) (rear_front g rest w i ends) s (members_events x d) e
         (omega (arith, deep)) before calm fine
         (λ u b c v.
         let k = members_read d bs u (curly_ends Curly bs to) (omega (arith, deep)) fit b c v in
@@ -242,8 +251,7 @@ module _ (o : OptionsData) (x : List ℕ) (prints : Each is_printable x) where
         (λ t h e c k. takes_comma o x bs Square f.white f.start t f.gap f.starts h e c) in
         let n = part_read p (Square ∷ bs) q.after ends both.1 fit.1 q.before q.calm tt in
         let i = at_of false no_scope q.lexeme in
-        let second = passage_one o x (Square ∷ bs) lexemes.Comma (0x2C ∷ (f.white ++ f.start)) (f.white ++ f.start)
-        f.start true r.after q refl refl refl in
+        let second = passage_one o lexemes.Comma r.after q.read refl refl refl in
         let parted = λ (more : List Terminal). terminal Comma i ∷ more in
         let rear = passage_then o r.after q.after n.after parted (spell n.node) second n.passage in
         record {
@@ -276,7 +284,7 @@ module _ (o : OptionsData) (x : List ℕ) (prints : Each is_printable x) where
         let n = part_read p (Curly ∷ bs) q.after ends deep fit.1 q.before q.calm q.opener in
         let i = at_of true no_scope r.lexeme in
         let j = at_of false no_scope q.lexeme in
-        let first = passage_name o x own behind (0x3A ∷ value) (0x3A ∷ (f.white ++ f.start)) f.start written bs s r q in
+        let first = passage_name o written (start_of_key r.key) s r.read q.read (sym r.number_is) in
         let head = λ (more : List Terminal). terminal (Part (Scalar DoubleQuoted written)) i
         ∷ terminal (Colon (Some r.key.number)) j ∷ more in
         record {
@@ -326,8 +334,7 @@ module _ (o : OptionsData) (x : List ℕ) (prints : Each is_printable x) where
         (λ t h e c k. takes_comma o x bs Curly f.white f.start t f.gap f.starts h e c) in
         let n = member_read m bs q.after ends both.1 fit.1 q.before q.calm q.opener in
         let i = at_of false no_scope q.lexeme in
-        let second = passage_one o x (Curly ∷ bs) lexemes.Comma (0x2C ∷ (f.white ++ f.start)) (f.white ++ f.start)
-        f.start true r.after q refl refl refl in
+        let second = passage_one o lexemes.Comma r.after q.read refl refl refl in
         let parted = λ (more : List Terminal). terminal Comma i ∷ more in
         let rear = passage_then o r.after q.after n.after parted (spell_pair n.pair) second n.passage in
         record {

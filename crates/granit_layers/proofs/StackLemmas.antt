@@ -54,21 +54,34 @@ none_counted : {A : Type 0} (xs : List A) → (length xs == 0) ≡ is_none_left 
 none_counted [] = refl
 none_counted (x ∷ xs) = search (rules, tests)
 
+-- a turn of the top parser: what it was, what it became, and whether no other lay below it
+pub record TopTurn (S : Type 0) : Type 0 where
+  pub old : Layer S
+  pub turn : Turn
+  pub new : Layer S
+  pub is_bottom : Bool
+
+-- how parsers go: their steps, their offsets, and how these are set
+pub record ParserWays (S : Type 0) : Type 1 where
+  pub steps : S → Next → S → Type 0
+  pub offset : S → ℕ
+  pub sets : ℕ → S → S → Type 0
+
 -- a step of the top parser is a turn of the stack
-pub turned : {S : Type 0} (steps : S → Next → S → Type 0) (offset : S → ℕ) (sets : ℕ → S → S → Type 0)
-    (emits_comments : Bool) (top : Option (Layer S)) (below : List (Layer S)) (l k : Layer S) (turn : Turn)
-    (is_bottom : Bool) (n : ℕ) (r : Option Answer) (new : List (Layer S)) → top ≡ Some l → is_bottom ≡ (n == 0)
-    → n ≡ length below → TurnsLayer steps is_bottom emits_comments l turn k → ComesOf offset sets turn (k ∷ below) r new
-    → TurnsOnce steps offset sets emits_comments (layers_of top below) r new
-turned steps offset sets emits_comments None below l k turn is_bottom n r new is bottom counted turns comes = absurd cc
-turned steps offset sets emits_comments (Some t) below l k turn is_bottom n r new is bottom counted turns comes =
-    let same : l ≡ t = cc in
-    let is_none : is_bottom ≡ is_none_left below =
+pub turned : {S : Type 0} (w : ParserWays S) (emits_comments : Bool) (top : Option (Layer S)) (below : List (Layer S))
+    (t : TopTurn S) (n : ℕ) (r : Option Answer) (new : List (Layer S)) → top ≡ Some t.old → t.is_bottom ≡ (n == 0)
+    → n ≡ length below → TurnsLayer w.steps t.is_bottom emits_comments t.old t.turn t.new
+    → ComesOf w.offset w.sets t.turn (t.new ∷ below) r new
+    → TurnsOnce w.steps w.offset w.sets emits_comments (layers_of top below) r new
+turned w emits_comments None below t n r new is bottom counted turns comes = absurd cc
+turned w emits_comments (Some l) below t n r new is bottom counted turns comes =
+    let same : t.old ≡ l = cc in
+    let is_none : t.is_bottom ≡ is_none_left below =
     bottom ∙ (ap (λ m. m == 0) counted ∙ none_counted below) in (
-      turn,
-      k,
-      subst (λ b. TurnsLayer steps b emits_comments t turn k) is_none
-          (subst (λ x. TurnsLayer steps is_bottom emits_comments x turn k) same turns),
+      t.turn,
+      t.new,
+      subst (λ b. TurnsLayer w.steps b emits_comments l t.turn t.new) is_none
+          (subst (λ x. TurnsLayer w.steps t.is_bottom emits_comments x t.turn t.new) same turns),
       comes,
     )
 
@@ -99,14 +112,6 @@ withheld_long steps offset sets emits n old new e before all kind = inr (record 
   turns = before.turns;
   counted = before.counted ∙ all;
 })
-
--- one gives something
-pub reads_first : {S : Type 0} (steps : S → Next → S → Type 0) (offset : S → ℕ) (sets : ℕ → S → S → Type 0)
-    (emits now : Bool) (n : ℕ) (old mid new : List (Layer S)) (r : Answer) → now ≡ emits
-    → WithheldTimes steps offset sets emits n old mid → TurnsOnce steps offset sets now mid (Some r) new
-    → StackReads steps offset sets emits old r new
-reads_first steps offset sets emits now n old mid new r same before turns =
-    inl (mid, before.turns, subst (λ b. TurnsOnce steps offset sets b mid (Some r) new) same turns)
 
 -- a stack with these parsers
 abbrev with_layers : {S : Type 0} → Stack S → List (Layer S) → Stack S

@@ -98,13 +98,16 @@ none_told : (offset : Option ℕ) → is_some offset ≡ false → offset ≡ No
 none_told None silent = refl
 none_told (Some at) silent = absurd cc
 
+-- the error that a source meets on the way from one state to another is the first of these items
+abbrev pub MeetsFirst : Origin → Origin → List (Result ℕ ErrorKind) → Type 0
+MeetsFirst old new items = (k : FaultKind) → GoesGiving old new → new.error ≡ Some k → first_error items ≡ Some k
+
 -- an error that a source gave is the first of the items
 pub items_of : {I V : Type 0} (unread : I → Unread → Type 0) (origin : I → Origin) (view : V → List PlainEvent)
     (o p : OptionsData) (items : List (Result ℕ ErrorKind)) → p ≡ o → (r : Result V Refused) (old new : Reading I)
     → GivesWhole unread origin view p (start_from (bare_text_start (characters_of items))) (first_error items) r old new
     → CameOn unread (bare_text_start (characters_of items)) old
-    → ((k : FaultKind) → GoesGiving (origin old.input) (origin new.input) → (origin new.input).error ≡ Some k
-    → first_error items ≡ Some k)
+    → MeetsFirst (origin old.input) (origin new.input) items
     → (origin old.input).tells_offset ≡ false → AnswersItems view o items r
 items_of unread origin view o p items same (Ok v) old new g came source silent =
     (g.0, bare_answer_of o p (characters_of items) (view v) same g.1)

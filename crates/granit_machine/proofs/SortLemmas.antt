@@ -3,15 +3,14 @@ use Rattle.std.proofs.Common.{◌≡◌, ℕ, ◌==◌, ◌&&◌, ◌||◌, Bool
 use Rattle.std.specs.Prelude.{if◌then◌else◌, slice_index}
 use Rattle.std.proofs.lemmas.Bool.Decides.{nat_tests}
 use Rattle.granit_base.specs.Classes.{is_blank, is_break, is_z, is_breakz, is_blank_or_breakz, is_gap, is_flow}
-use Rattle.granit_base.specs.Classes.{is_printable, is_bom}
+use Rattle.granit_base.specs.Classes.{is_printable}
 use Rattle.granit_lexemes.specs.Basics.{is_document_mark}
 use Rattle.granit_lexemes.specs.Here.{Here, text_len, next_char}
 use Rattle.granit_lexemes.specs.declared.layout.Bracket.TheVariants.{Square, Curly}
 use Rattle.granit_base.specs.PlainContent.{is_content}
 use Rattle.granit_machine.specs.LexemeSort.{PlacedSort, LexemeSort, Placed, TextEnd, StartMark, EndMark, Unprintable}
 use Rattle.granit_machine.specs.LexemeSort.{DirectiveSign, OpenSign, CloseSign, CommaSign, DashSign, QuestionSign}
-use Rattle.granit_machine.specs.LexemeSort.{ColonSign, AliasSign, AnchorSign, TagSign, BlockSign, QuoteSign, StrayMark}
-use Rattle.granit_machine.specs.LexemeSort.{NoSign, PlainSign, sort_of, sort_at}
+use Rattle.granit_machine.specs.LexemeSort.{ColonSign, PlainSign, sort_of, sort_at}
 
 abbrev is_plain : PlacedSort → Bool
 is_plain PlainSign = true
@@ -21,47 +20,14 @@ abbrev is_plain_placed : LexemeSort → Bool
 is_plain_placed (Placed sort) = is_plain sort
 is_plain_placed sort = false
 
--- the sort by its tests in their order
-abbrev chain : (literal single : Bool) → (a b c d e f g i j k l m n p q : Bool) → PlacedSort
-chain literal single a b c d e f g i j k l m n p q =
-    if a then OpenSign Square
-    else if b then OpenSign Curly
-    else if c then CloseSign Square
-    else if d then CloseSign Curly
-    else if e then CommaSign
-    else if f then DashSign
-    else if g then QuestionSign
-    else if i then ColonSign
-    else if j then AliasSign
-    else if k then AnchorSign
-    else if l then TagSign
-    else if m then BlockSign literal
-    else if n then QuoteSign single
-    else if p then StrayMark
-    else if q then NoSign
-    else PlainSign
-
 no_plain : (sort : PlacedSort) → is_plain sort ≡ false → sort ≡ PlainSign → ⊥
 no_plain sort p e = let m : is_plain sort ≡ true = ap is_plain e in absurd cc
 
--- no flow indicator begins a plain scalar, and no `:` that begins a lexeme of its own
-abbrev NoIndicator : (a b c d e i : Bool) → Type 0
-NoIndicator a b c d e i = (a ≡ false) × (b ≡ false) × (c ≡ false) × (d ≡ false) × (e ≡ false) × (i ≡ false)
-
-chain_plain : (literal single : Bool) (a b c d e f g i j k l m n p q : Bool)
-    → chain literal single a b c d e f g i j k l m n p q ≡ PlainSign → NoIndicator a b c d e i
-chain_plain literal single true b c d e f g i j k l m n p q is = absurd (no_plain (OpenSign Square) refl is)
-chain_plain literal single false true c d e f g i j k l m n p q is = absurd (no_plain (OpenSign Curly) refl is)
-chain_plain literal single false false true d e f g i j k l m n p q is = absurd (no_plain (CloseSign Square) refl is)
-chain_plain literal single false false false true e f g i j k l m n p q is = absurd (no_plain (CloseSign Curly) refl is)
-chain_plain literal single false false false false true f g i j k l m n p q is = absurd (no_plain CommaSign refl is)
-chain_plain literal single false false false false false true g i j k l m n p q is = absurd (no_plain DashSign refl is)
-chain_plain literal single false false false false false false true i j k l m n p q is = absurd
-    (no_plain QuestionSign refl is)
-chain_plain literal single false false false false false false false true j k l m n p q is = absurd
-    (no_plain ColonSign refl is)
-chain_plain literal single false false false false false false false false j k l m n p q is =
-    (refl, refl, refl, refl, refl, refl)
+-- a test that would give another sort fails where a plain scalar begins
+past_test : (test : Bool) (sort other : PlacedSort) → is_plain sort ≡ false
+    → (if test then sort else other) ≡ PlainSign → (test ≡ false) × (other ≡ PlainSign)
+past_test true sort other n is = absurd (no_plain sort n is)
+past_test false sort other n is = (refl, is)
 
 no_flow : (c : ℕ) → (c == 0x5B) ≡ false → (c == 0x7B) ≡ false → (c == 0x5D) ≡ false → (c == 0x7D) ≡ false
     → (c == 0x2C) ≡ false → is_flow c ≡ false
@@ -86,12 +52,18 @@ plain_of : (in_flow adjacent : Bool) (c next : ℕ) → sort_of in_flow adjacent
     → (is_flow c ≡ false) × ((c == 0x3A && (is_blank_or_breakz next || (in_flow && is_flow next))) ≡ false)
 unfolding sort_of
 plain_of in_flow adjacent c next is =
-    let x = chain_plain (c == 0x7C) (c == 0x27) (c == 0x5B) (c == 0x7B) (c == 0x5D) (c == 0x7D) (c == 0x2C)
-    (c == 0x2D && is_blank_or_breakz next) (c == 0x3F && is_blank_or_breakz next)
-    (c == 0x3A && (is_blank_or_breakz next || (in_flow && (is_flow next || adjacent)))) (c == 0x2A) (c == 0x26)
-    (c == 0x21) ((c == 0x7C || c == 0x3E) && not in_flow) (c == 0x27 || c == 0x22) (is_bom c)
-    (((c == 0x40 || c == 0x60) || c == 0x25) || (c == 0x7C || c == 0x3E)) is in
-    (no_flow c x.0 x.1 x.2 x.3 x.4, no_colon (c == 0x3A) (is_blank_or_breakz next) in_flow (is_flow next) adjacent x.5)
+    let open_square = past_test (c == 0x5B) (OpenSign Square) _ refl is in
+    let open_curly = past_test (c == 0x7B) (OpenSign Curly) _ refl open_square.1 in
+    let close_square = past_test (c == 0x5D) (CloseSign Square) _ refl open_curly.1 in
+    let close_curly = past_test (c == 0x7D) (CloseSign Curly) _ refl close_square.1 in
+    let comma = past_test (c == 0x2C) CommaSign _ refl close_curly.1 in
+    let dash = past_test (c == 0x2D && is_blank_or_breakz next) DashSign _ refl comma.1 in
+    let question = past_test (c == 0x3F && is_blank_or_breakz next) QuestionSign _ refl dash.1 in
+    let colon = past_test (c == 0x3A && (is_blank_or_breakz next || (in_flow && (is_flow next || adjacent))))
+    ColonSign _ refl question.1 in (
+      no_flow c open_square.0 open_curly.0 close_square.0 close_curly.0 comma.0,
+      no_colon (c == 0x3A) (is_blank_or_breakz next) in_flow (is_flow next) adjacent colon.0,
+    )
 
 nul_unprintable : is_printable 0 ≡ false
 unfolding is_printable is_break

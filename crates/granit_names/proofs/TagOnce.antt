@@ -195,23 +195,38 @@ tag_is in_flow h kind after a =
     spelled_is in_flow h a.source a.handle a.suffix a.rest a.stands.spells a.stands.whole a.stands.ends
     ∙ ap₂ (λ (k : TagRead) (g : Here). Ok (k, g)) (sym a.answer) (sym a.reached)
 
-pub one_tag_stands : (in_flow : Bool) (h : Here) (source handle suffix rest other name text behind : List ℕ)
-    → TagStands in_flow h source handle suffix rest → TagStands in_flow h other name text behind
-    → (source ≡ other) × (handle ≡ name) × (suffix ≡ text) × (rest ≡ behind)
-one_tag_stands in_flow h source handle suffix rest other name text behind p q =
-    let e : ◌≡◌ {A = Result (TagRead × Here) Fault} (Ok (tag_of handle suffix, over source h))
-    (Ok (tag_of name text, over other h)) =
-    sym (spelled_is in_flow h source handle suffix rest p.spells p.whole p.ends)
-    ∙ spelled_is in_flow h other name text behind q.spells q.whole q.ends in
-    let pair : ◌≡◌ {A = TagRead × Here} (tag_of handle suffix, over source h) (tag_of name text, over other h) = cc in
-    let kind : tag_of handle suffix ≡ tag_of name text = ap (λ (x : TagRead × Here). x.0) pair in
-    let place : over source h ≡ over other h = ap (λ (x : TagRead × Here). x.1) pair in
-    let r : rest ≡ behind = sym (over_text source rest h p.whole) ∙ ap (λ (g : Here). g.unread.text) place
-    ∙ over_text other behind h q.whole in
-    let joined : source ++ rest ≡ other ++ rest = sym p.whole ∙ q.whole ∙ ap (λ (l : List ℕ). other ++ l) (sym r) in (
-      append_cancel_right source other rest joined,
-      ap (λ (x : TagRead). x.handle) kind,
-      ap (λ (x : TagRead). x.suffix)
-          kind,
+-- a tag as one: its characters, its handle, what it spells, and what stands behind it
+pub record TagForm : Type 0 where
+  pub source : List ℕ
+  pub handle : List ℕ
+  pub suffix : List ℕ
+  pub rest : List ℕ
+
+abbrev TagIsAt : Bool → Here → TagForm → Type 0
+TagIsAt in_flow h x = TagStands in_flow h x.source x.handle x.suffix x.rest
+
+abbrev tag_of_form : TagForm → TagRead
+tag_of_form x = tag_of x.handle x.suffix
+
+form_read : (in_flow : Bool) (h : Here) (x : TagForm) → TagIsAt in_flow h x
+    → tag_at in_flow h ≡ Ok (tag_of_form x, over x.source h)
+form_read in_flow h x p = spelled_is in_flow h x.source x.handle x.suffix x.rest p.spells p.whole p.ends
+
+pub one_tag_stands : (in_flow : Bool) (h : Here) (x y : TagForm) → TagIsAt in_flow h x → TagIsAt in_flow h y
+    → (x.source ≡ y.source) × (x.handle ≡ y.handle) × (x.suffix ≡ y.suffix) × (x.rest ≡ y.rest)
+one_tag_stands in_flow h x y p q =
+    let e : ◌≡◌ {A = Result (TagRead × Here) Fault} (Ok (tag_of_form x, over x.source h))
+    (Ok (tag_of_form y, over y.source h)) =
+    sym (form_read in_flow h x p) ∙ form_read in_flow h y q in
+    let pair : ◌≡◌ {A = TagRead × Here} (tag_of_form x, over x.source h) (tag_of_form y, over y.source h) = cc in
+    let kind : tag_of_form x ≡ tag_of_form y = ap (λ (t : TagRead × Here). t.0) pair in
+    let place : over x.source h ≡ over y.source h = ap (λ (t : TagRead × Here). t.1) pair in
+    let r : x.rest ≡ y.rest = sym (over_text x.source x.rest h p.whole) ∙ ap (λ (g : Here). g.unread.text) place
+    ∙ over_text y.source y.rest h q.whole in
+    let joined : x.source ++ x.rest ≡ y.source ++ x.rest = sym p.whole ∙ q.whole
+    ∙ ap (λ (l : List ℕ). y.source ++ l) (sym r) in (
+      append_cancel_right x.source y.source x.rest joined,
+      ap (λ (t : TagRead). t.handle) kind,
+      ap (λ (t : TagRead). t.suffix) kind,
       r,
     )

@@ -314,9 +314,9 @@ further_by at start front end h p none =
     (sym (plain_begins at start (nothing_taken end true) h refl)
     ∙ ap (λ (q : PlainTaken). plain_whole at start q h) (sym none))
 
-pub ended_same : (at : LayoutData) (start : Mark) (h : Here) (t u : Written) (e f : Mark) (l m c d : Bool) → t ≡ u
+pub ended_same : (at : LayoutData) (start : Mark) (h : Here) {t u : Written} {e f : Mark} {l m c d : Bool} → t ≡ u
     → e ≡ f → l ≡ m → c ≡ d → ended_plain at start t e l c h ≡ ended_plain at start u f m d h
-ended_same at start h t u e f l m c d p q r s = rw (p, q, r, s) refl
+ended_same at start h p q r s = rw (p, q, r, s) refl
 
 pub text_by : (start end : Mark) (a b : ℕ) (front given further : List ℕ) → a ≡ start.place.line
     → b ≡ end.place.line → given ≡ further

@@ -12,6 +12,7 @@ pub mod Printing
 pub mod QuotedCauses
 pub mod QuotedEscapes
 pub mod QuotedFolding
+pub mod QuotedForms
 pub mod QuotedGaps
 pub mod QuotedKept
 pub mod QuotedLaw

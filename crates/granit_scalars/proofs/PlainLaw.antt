@@ -91,26 +91,45 @@ line_is : (at : LayoutData) (tail : Separation) (s : PlainState) → Kept at tai
 line_is at (OnLine blanks) s k = k.line
 line_is at (Folded breaks indent) s k = k.line
 
-abbrev read_of : Mark → List ℕ → (end : Mark) → (lends : Bool) → Option Mark → Bool → PlainRead
-read_of start value end lends cut line = record {
-  text = record { characters = value; is_borrowed = is_one_line start end && lends };
-  source = record { start = start; end = end };
-  cut_by_comment = cut;
-  on_new_line = line;
+-- what a scalar that began somewhere is read to
+record PlainFound : Type 0 where
+  value : List ℕ
+  end : Mark
+  lends : Bool
+  cut : Option Mark
+  line : Bool
+
+abbrev read_of : Mark → PlainFound → PlainRead
+read_of start x = record {
+  text = record { characters = x.value; is_borrowed = is_one_line start x.end && x.lends };
+  source = record { start = start; end = x.end };
+  cut_by_comment = x.cut;
+  on_new_line = x.line;
 }
 
-same_read : (start : Mark) (v w : List ℕ) (a b : Mark) (s t : Bool) (c d : Option Mark) (l m : Bool) → v ≡ w → a ≡ b
-    → s ≡ t → c ≡ d → l ≡ m → read_of start v a s c l ≡ read_of start w b t d m
-same_read start v w a b s t c d l m e f i g h = rw (e, f, i, g, h) refl
+same_read : (start : Mark) (x y : PlainFound) → x.value ≡ y.value → x.end ≡ y.end → x.lends ≡ y.lends
+    → x.cut ≡ y.cut → x.line ≡ y.line → read_of start x ≡ read_of start y
+same_read start x y e f i g h = rw (e, f, i, g, h) refl
 
 answer_is : (at : LayoutData) (h : Here) (value source : List ℕ) (tail : Separation) (s : PlainState)
     → value ≡ folded source → Stays at tail (over source h) s
     → plain_read at (mark_of h) value s ≡ plain_answer at h source tail s.here.unread.text
 answer_is at h value source tail s e k =
-    same_read (mark_of h) value (folded source) s.end (mark_of (over source h)) s.here.unread.lends h.unread.lends
-    (cut_mark at s)
-    (if not at.in_flow && is_cut at tail s.here.unread.text then Some (mark_of (behind_of h source tail)) else None)
-    s.on_new_line (is_folded tail)
+    same_read (mark_of h) (record {
+      value = value;
+      end = s.end;
+      lends = s.here.unread.lends;
+      cut = cut_mark at s;
+      line = s.on_new_line;
+    })
+    (record {
+      value = folded source;
+      end = mark_of (over source h);
+      lends = h.unread.lends;
+      cut = if not at.in_flow && is_cut at tail s.here.unread.text then Some (mark_of (behind_of h source tail))
+          else None;
+      line = is_folded tail;
+    })
     e k.end (ap (λ (n : Here). n.unread.lends) k.here ∙ over_lends (separation_text tail) (over source h)
     ∙ over_lends source h)
     (ap₂ (λ (b : Bool) (n : Here). if not at.in_flow && b then Some (mark_of n) else None) (cut_is at tail s k.kept)

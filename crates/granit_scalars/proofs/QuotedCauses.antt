@@ -18,9 +18,8 @@ use Rattle.granit_lexemes.specs.Moves.{steps}
 use Rattle.granit_lexemes.specs.Outcome.{Fault, fault_at, ◌>>=◌}
 use Rattle.granit_lexemes.specs.Pieces.{with_front}
 use Rattle.granit_lexemes.specs.PlainExtent.{over, starts_comment}
-use Rattle.granit_lexemes.specs.QuotedExtent.{WrongEscape, Between, QuotedFront, front_end, QuotedStands, quoted_value}
-use Rattle.granit_lexemes.specs.QuotedExtent.{quoted_end, BlanksBehind, ends_quoted, MayStand, RefusesQuoted, inside}
-use Rattle.granit_lexemes.specs.QuotedExtent.{behind}
+use Rattle.granit_lexemes.specs.QuotedExtent.{WrongEscape, Between, BlanksBehind, ends_quoted, MayStand}
+use Rattle.granit_lexemes.specs.QuotedExtent.{RefusesQuoted, inside, behind}
 use Rattle.granit_lexemes.specs.QuotedExtent.{WrongInside, tab, strict, loose, mark, end, character, escape}
 use Rattle.granit_lexemes.specs.QuotedExtent.{WrongBehind, touching, comment as wrong_comment}
 use Rattle.granit_lexemes.specs.QuotedExtent.{character as strange_behind, trailing_single, trailing_double}
@@ -37,6 +36,8 @@ use Rattle.granit_scalars.proofs.EscapeCauses.{wrong_escape}
 use Rattle.granit_scalars.proofs.Nameless.{comment_none}
 use Rattle.granit_scalars.proofs.PlainReads.{neither_gap}
 use Rattle.granit_scalars.proofs.QuotedEscapes.{text_behind, over_text}
+use Rattle.granit_scalars.proofs.QuotedForms.{QuotedForm, FrontStands, FormStands, form_value}
+use Rattle.granit_scalars.proofs.QuotedForms.{front_of_form, end_of_form}
 use Rattle.granit_scalars.proofs.QuotedGaps.{gap_runs}
 use Rattle.granit_scalars.proofs.QuotedKept.{StateIs}
 use Rattle.granit_scalars.proofs.QuotedOnce.{run, body, answer_of}
@@ -44,7 +45,7 @@ use Rattle.granit_scalars.proofs.QuotedRuns.{placed, begins_with, backslash_no_g
 use Rattle.granit_scalars.proofs.QuotedRuns.{content_chain, turn_at, no_strictly, no_loosely, inside_runs}
 use Rattle.granit_scalars.proofs.QuotedTail.{tail_past, no_hash, blank_no_hash}
 use Rattle.granit_scalars.proofs.QuotedTurns.{Placed, closing_is, tab_meets, strict_meets, loose_meets, mark_meets}
-use Rattle.granit_scalars.proofs.QuotedTurns.{turn_chain, turn_is}
+use Rattle.granit_scalars.proofs.QuotedTurns.{QuotedTests, tests_at, turn_on_tests, turn_is}
 use Rattle.granit_scalars.proofs.Stepping.{over-append, seen_as, second_of}
 
 -- ---- comments
@@ -73,29 +74,32 @@ comment_refused h kind m p = on (comment h) refl (comment_reads h (ap first p.sp
 
 -- ---- turns
 
-module _ (single : Bool) (start : Mark) (s : QuotedState) (a t b d e f g p c : Bool) where
+module _ (single : Bool) (start : Mark) (s : QuotedState) (x : QuotedTests) where
   abbrev chain : Result (Option (List ℕ) × QuotedState) Fault
-  chain = turn_chain single start s a t b d e f g p c
+  chain = turn_on_tests single start s x
 
-  chain_tab : a ≡ true → t ≡ true → chain ≡ Err (fault_at TabInIndentation (mark_of s.here))
+  chain_tab : x.blank ≡ true → x.tab ≡ true → chain ≡ Err (fault_at TabInIndentation (mark_of s.here))
   chain_tab ha ht = rw (ha, ht) refl
 
-  chain_strict : a ≡ false → b ≡ false → d ≡ true → chain ≡ Err (fault_at InvalidIndentation (mark_of s.here))
+  chain_strict : x.blank ≡ false → x.line_break ≡ false → x.strict ≡ true
+      → chain ≡ Err (fault_at InvalidIndentation (mark_of s.here))
   chain_strict ha hb hd = rw (ha, hb, hd) refl
 
-  chain_loose : a ≡ false → b ≡ false → d ≡ false → e ≡ true
+  chain_loose : x.blank ≡ false → x.line_break ≡ false → x.strict ≡ false → x.loose ≡ true
       → chain ≡ Err (fault_at InvalidQuotedScalarIndent (mark_of s.here))
   chain_loose ha hb hd he = rw (ha, hb, hd, he) refl
 
-  chain_mark : a ≡ false → b ≡ false → d ≡ false → e ≡ false → f ≡ true
+  chain_mark : x.blank ≡ false → x.line_break ≡ false → x.strict ≡ false → x.loose ≡ false → x.mark ≡ true
       → chain ≡ Err (fault_at DocumentIndicatorInQuotedScalar start)
   chain_mark ha hb hd he hf = rw (ha, hb, hd, he, hf) refl
 
-  chain_end : a ≡ false → b ≡ false → d ≡ false → e ≡ false → f ≡ false → g ≡ true
+  chain_end : x.blank ≡ false → x.line_break ≡ false → x.strict ≡ false → x.loose ≡ false → x.mark ≡ false
+      → x.ended ≡ true
       → chain ≡ Err (fault_at UnclosedQuotedScalar start)
   chain_end ha hb hd he hf hg = rw (ha, hb, hd, he, hf, hg) refl
 
-  chain_character : a ≡ false → b ≡ false → d ≡ false → e ≡ false → f ≡ false → g ≡ false → p ≡ false
+  chain_character : x.blank ≡ false → x.line_break ≡ false → x.strict ≡ false → x.loose ≡ false → x.mark ≡ false
+      → x.ended ≡ false → x.prints ≡ false
       → chain ≡ Err (fault_at (UnexpectedCharacter (next_char s.here)) (mark_of s.here))
   chain_character ha hb hd he hf hg hp = rw (ha, hb, hd, he, hf, hg, hp) refl
 
@@ -160,65 +164,47 @@ module _ (single : Bool) (at : LayoutData) (start : Mark) (s : QuotedState) wher
   abbrev Fails : FaultKind → Mark → Type 0
   Fails kind m = quoted_turn single at start s ≡ Err (fault_at kind m)
 
-  abbrev blank_next : Bool
-  blank_next = is_blank (next_char s.here)
-
-  abbrev break_next : Bool
-  break_next = is_break (next_char s.here)
-
-  abbrev at_end : Bool
-  at_end = text_len s.here == 0
-
-  abbrev prints : Bool
-  prints = is_printable (next_char s.here)
-
   abbrev closing : Bool
   closing = is_closing single s.here.unread.text
 
   tab_turn : next_char s.here ≡ 0x09 → tab_meets at s ≡ true → Fails TabInIndentation (mark_of s.here)
   tab_turn next y =
       turn_is single at start s
-      ∙ chain_tab single start s blank_next (tab_meets at s) break_next (strict_meets at s) (loose_meets single at s)
-      (mark_meets s) at_end prints closing (ap is_blank next ∙ blank_tab) y
+      ∙ chain_tab single start s (tests_at single at s) (ap is_blank next ∙ blank_tab) y
 
   strict_turn : is_gap (next_char s.here) ≡ false → strict_meets at s ≡ true
       → Fails InvalidIndentation (mark_of s.here)
   strict_turn n y =
       let k = neither_gap (next_char s.here) n in
       turn_is single at start s
-      ∙ chain_strict single start s blank_next (tab_meets at s) break_next (strict_meets at s)
-      (loose_meets single at s) (mark_meets s) at_end prints closing k.0 k.1 y
+      ∙ chain_strict single start s (tests_at single at s) k.0 k.1 y
 
   loose_turn : is_gap (next_char s.here) ≡ false → strict_meets at s ≡ false → loose_meets single at s ≡ true
       → Fails InvalidQuotedScalarIndent (mark_of s.here)
   loose_turn n d y =
       let k = neither_gap (next_char s.here) n in
       turn_is single at start s
-      ∙ chain_loose single start s blank_next (tab_meets at s) break_next (strict_meets at s)
-      (loose_meets single at s) (mark_meets s) at_end prints closing k.0 k.1 d y
+      ∙ chain_loose single start s (tests_at single at s) k.0 k.1 d y
 
   mark_turn : is_gap (next_char s.here) ≡ false → strict_meets at s ≡ false → loose_meets single at s ≡ false
       → mark_meets s ≡ true → Fails DocumentIndicatorInQuotedScalar start
   mark_turn n d l y =
       let k = neither_gap (next_char s.here) n in
       turn_is single at start s
-      ∙ chain_mark single start s blank_next (tab_meets at s) break_next (strict_meets at s)
-      (loose_meets single at s) (mark_meets s) at_end prints closing k.0 k.1 d l y
+      ∙ chain_mark single start s (tests_at single at s) k.0 k.1 d l y
 
   end_turn : Placed single at s → (text_len s.here == 0) ≡ true → Fails UnclosedQuotedScalar start
   end_turn p y =
       let k = neither_gap (next_char s.here) p.no_gap in
       turn_is single at start s
-      ∙ chain_end single start s blank_next (tab_meets at s) break_next (strict_meets at s) (loose_meets single at s)
-      (mark_meets s) at_end prints closing k.0 k.1 p.no_strict p.no_loose p.no_mark y
+      ∙ chain_end single start s (tests_at single at s) k.0 k.1 p.no_strict p.no_loose p.no_mark y
 
   character_turn : Placed single at s → (text_len s.here == 0) ≡ false → is_printable (next_char s.here) ≡ false
       → Fails (UnexpectedCharacter (next_char s.here)) (mark_of s.here)
   character_turn p n y =
       let k = neither_gap (next_char s.here) p.no_gap in
       turn_is single at start s
-      ∙ chain_character single start s blank_next (tab_meets at s) break_next (strict_meets at s)
-      (loose_meets single at s) (mark_meets s) at_end prints closing k.0 k.1 p.no_strict p.no_loose p.no_mark n y
+      ∙ chain_character single start s (tests_at single at s) k.0 k.1 p.no_strict p.no_loose p.no_mark n y
 
   escape_turn : {kind : FaultKind} (x : Between) (rest : List ℕ) → StateIs x s
       → MayStand single at s.escaped x s.here.unread.text → s.here.unread.text ≡ 0x5C ∷ rest → single ≡ false
@@ -289,24 +275,24 @@ module _ (single : Bool) (at : LayoutData) (start : Mark) (s : QuotedState) wher
 
 -- ---- inside the quotes
 
-inside_refused : (single : Bool) (at : LayoutData) (h : Here) (source value gap : List ℕ) (left : Bool) (x : Between)
-    (rest : List ℕ) (kind : FaultKind) (m : Mark) → QuotedFront single at h source value gap left x rest
-    → WrongInside single at (mark_of h) left x rest (front_end single h source gap) kind m
+inside_refused : (single : Bool) (at : LayoutData) (h : Here) (x : QuotedForm) (kind : FaultKind) (m : Mark)
+    → FrontStands single at h x
+    → WrongInside single at (mark_of h) x.left x.between x.rest (front_of_form single h x) kind m
     → quoted_scalar single at h ≡ Err (fault_at kind m)
 unfolding quoted_scalar
-inside_refused single at h source value gap left x rest kind m front w =
-    let there : (step h).unread.text ≡ source ++ (gap ++ rest) =
-    text_behind h (quote_char single) (source ++ (gap ++ rest)) front.whole in
-    let past = over source (step h) in
-    let text_past = over_text source (gap ++ rest) (step h) there in
-    let r = gap_runs single at (mark_of h) left past front.separated text_past in
+inside_refused single at h x kind m front w =
+    let there : (step h).unread.text ≡ x.source ++ (x.gap ++ x.rest) =
+    text_behind h (quote_char single) (x.source ++ (x.gap ++ x.rest)) front.whole in
+    let past = over x.source (step h) in
+    let text_past = over_text x.source (x.gap ++ x.rest) (step h) there in
+    let r = gap_runs single at (mark_of h) x.left past front.separated text_past in
     let s = r.after in
-    let text : s.here.unread.text ≡ rest =
-    ap (λ (g : Here). g.unread.text) r.here ∙ over_text gap rest past text_past in
-    let place : s.here ≡ front_end single h source gap = r.here ∙ sym (over-append source gap (step h)) in
+    let text : s.here.unread.text ≡ x.rest =
+    ap (λ (g : Here). g.unread.text) r.here ∙ over_text x.gap x.rest past text_past in
+    let place : s.here ≡ front_of_form single h x = r.here ∙ sym (over-append x.source x.gap (step h)) in
     let fails : run single at h ≡ Err (fault_at kind m) =
     inside_runs single at (mark_of h) front.inside (step h) there
-    ∙ ap (with_front value)
+    ∙ ap (with_front x.value)
     (r.same
     ∙ pieces_fails quoted_len (quoted_turn single at (mark_of h)) s (fault_at kind m)
     (wrong_turn single at (mark_of h) s w r.state r.escaped text place)) in
@@ -384,18 +370,16 @@ module _ (single : Bool) (at : LayoutData) (start : Mark) (value : Written) (h :
   tail_refused (trailing_single blanks rest s p n y z) = trailing_refused blanks rest true s p n y z
   tail_refused (trailing_double blanks rest s p n y z) = trailing_refused blanks rest false s p n y z
 
-behind_refused : (single : Bool) (at : LayoutData) (h : Here) (source value gap : List ℕ) (left : Bool) (x : Between)
-    (rest : List ℕ) (kind : FaultKind) (m : Mark) → QuotedStands single at h source value gap left x rest
-    → WrongBehind single at (mark_of h) (quoted_end single h source gap) kind m
+behind_refused : (single : Bool) (at : LayoutData) (h : Here) (x : QuotedForm) (kind : FaultKind) (m : Mark)
+    → FormStands single at h x → WrongBehind single at (mark_of h) (end_of_form single h x) kind m
     → quoted_scalar single at h ≡ Err (fault_at kind m)
 unfolding quoted_scalar
-behind_refused single at h source value gap left x rest kind m stands w =
-    let b = body single at h source value gap left x rest stands in
+behind_refused single at h x kind m stands w =
+    let b = body single at h x stands in
     answer_of single at h (run single at h) b.text b.after b.gives
     ∙ ap₂ (λ (v : List ℕ) (g : Here). quoted_tail single at (mark_of h) (quoted_text single (step h) v) g) b.spells
     (ap step b.here)
-    ∙ tail_refused single at (mark_of h) (quoted_text single (step h) (quoted_value value left x))
-    (quoted_end single h source gap) w
+    ∙ tail_refused single at (mark_of h) (quoted_text single (step h) (form_value x)) (end_of_form single h x) w
 
 -- ---- the law
 
@@ -403,9 +387,11 @@ behind_refused single at h source value gap left x rest kind m stands w =
 pub quoted_cause_refused : (single : Bool) (at : LayoutData) (h : Here) (kind : FaultKind) (m : Mark)
     → RefusesQuoted single at h kind m → quoted_scalar single at h ≡ Err (fault_at kind m)
 quoted_cause_refused single at h kind m (inside source value gap left x rest front w) =
-    inside_refused single at h source value gap left x rest kind m front w
+    inside_refused single at h
+    (record { source = source; value = value; gap = gap; left = left; between = x; rest = rest }) kind m front w
 quoted_cause_refused single at h kind m (behind source value gap left x rest stands w) =
-    behind_refused single at h source value gap left x rest kind m stands w
+    behind_refused single at h
+    (record { source = source; value = value; gap = gap; left = left; between = x; rest = rest }) kind m stands w
 
 same_fault : (f g : Fault) → ◌≡◌ {A = Result (QuotedRead × Here) Fault} (Err f) (Err g)
     → (f.kind ≡ g.kind) × (f.mark ≡ g.mark)

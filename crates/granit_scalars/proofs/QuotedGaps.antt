@@ -4,23 +4,23 @@ use Rattle.std.proofs.Common.{ap, ap₂, ◌∙◌, subst, arith, append_assoc, 
 use Rattle.std.specs.Prelude.{slice_index, if◌then◌else◌}
 use Rattle.std.proofs.lemmas.Bool.{and_left}
 use Rattle.std.proofs.lemmas.Bool.Decides.{nat_tests}
-use Rattle.granit_base.specs.Classes.{is_blank, is_break, is_printable}
+use Rattle.granit_base.specs.Classes.{is_blank, is_break}
 use Rattle.granit_base.specs.Place.{Mark, first}
 use Rattle.granit_lexemes.specs.Gap.{Each}
-use Rattle.granit_lexemes.specs.Here.{Here, next_char, step, text_len}
+use Rattle.granit_lexemes.specs.Here.{Here, next_char, step}
 use Rattle.granit_lexemes.specs.LayoutData.{LayoutData}
 use Rattle.granit_lexemes.specs.PlainExtent.{over}
 use Rattle.granit_lexemes.specs.Basics.{past_break}
 use Rattle.granit_lexemes.specs.QuotedExtent.{OneBreak, line_feed, pair, carriage_return, NewLine, no_more, blank}
 use Rattle.granit_lexemes.specs.QuotedExtent.{break, Between, Lines, Separates, on_line, folded}
-use Rattle.granit_lexemes.specs.QuotedScalar.{QuotedState, is_closing, is_tab_left, quoted_at, over_blank, over_break}
+use Rattle.granit_lexemes.specs.QuotedScalar.{QuotedState, is_tab_left, quoted_at, over_blank, over_break}
 use Rattle.granit_lexemes.specs.QuotedScalar.{quoted_turn, quoted_len, quoted_rest}
 use Rattle.granit_lexemes.proofs.PieceLemmas.{with_front-nil, pieces_more}
 use Rattle.granit_scalars.proofs.Folding.{blank_apart_from_break}
 use Rattle.granit_scalars.proofs.PlainKept.{one_more}
 use Rattle.granit_scalars.proofs.QuotedEscapes.{text_behind, over_text}
 use Rattle.granit_scalars.proofs.QuotedKept.{StateIs, is_line_blank, is_indent_blank, is_first_break, is_further_break}
-use Rattle.granit_scalars.proofs.QuotedTurns.{tab_meets, strict_meets, loose_meets, mark_meets, turn_chain, turn_is}
+use Rattle.granit_scalars.proofs.QuotedTurns.{tab_meets, tests_at, turn_on_tests, turn_is}
 use Rattle.granit_scalars.proofs.QuotedTurns.{quoted_shortens}
 use Rattle.granit_scalars.proofs.Stepping.{over-append, seen_as, column_on, broken}
 
@@ -30,9 +30,7 @@ blank_turn : (single : Bool) (at : LayoutData) (start : Mark) (s : QuotedState) 
     → tab_meets at s ≡ false → quoted_turn single at start s ≡ Ok (Some [], over_blank s)
 blank_turn single at start s y n =
     turn_is single at start s
-    ∙ ap₂ (λ a t. turn_chain single start s a t (is_break (next_char s.here)) (strict_meets at s)
-    (loose_meets single at s) (mark_meets s) (text_len s.here == 0) (is_printable (next_char s.here))
-    (is_closing single s.here.unread.text)) y n
+    ∙ ap₂ (λ a t. turn_on_tests single start s (record (tests_at single at s) { blank = a; tab = t })) y n
 
 no_blank_break : (c : ℕ) → is_break c ≡ true → is_blank c ≡ false
 unfolding is_blank is_break
@@ -42,8 +40,7 @@ break_turn : (single : Bool) (at : LayoutData) (start : Mark) (s : QuotedState) 
     → quoted_turn single at start s ≡ Ok (Some [], over_break s)
 break_turn single at start s y =
     turn_is single at start s
-    ∙ ap₂ (λ a b. turn_chain single start s a (tab_meets at s) b (strict_meets at s) (loose_meets single at s)
-    (mark_meets s) (text_len s.here == 0) (is_printable (next_char s.here)) (is_closing single s.here.unread.text))
+    ∙ ap₂ (λ a b. turn_on_tests single start s (record (tests_at single at s) { blank = a; line_break = b }))
     (no_blank_break (next_char s.here) y) y
 
 onward : (single : Bool) (at : LayoutData) (start : Mark) (s after last : QuotedState)

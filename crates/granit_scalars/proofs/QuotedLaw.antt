@@ -6,14 +6,14 @@ use Rattle.granit_lexemes.specs.Here.{Here, next_char, mark_of, step}
 use Rattle.granit_lexemes.specs.LayoutData.{LayoutData}
 use Rattle.granit_lexemes.specs.Outcome.{Fault, ◌>>=◌}
 use Rattle.granit_lexemes.specs.Pieces.{pieces}
-use Rattle.granit_lexemes.specs.QuotedExtent.{Between, Blanks, QuotedFront, QuotedStands, quoted_end, quoted_value}
-use Rattle.granit_lexemes.specs.QuotedExtent.{Trails, AnswersQuoted, WrongInside, WrongBehind, RefusesQuoted, inside}
-use Rattle.granit_lexemes.specs.QuotedExtent.{behind}
+use Rattle.granit_lexemes.specs.QuotedExtent.{Blanks, Trails, AnswersQuoted, WrongInside, WrongBehind}
+use Rattle.granit_lexemes.specs.QuotedExtent.{RefusesQuoted, inside, behind}
 use Rattle.granit_lexemes.specs.QuotedScalar.{QuotedState, QuotedRead, quote_char, quoted_at, between_quoted}
 use Rattle.granit_lexemes.specs.QuotedScalar.{quoted_turn, quoted_len, quoted_read, quoted_text}
 use Rattle.granit_lexemes.specs.QuotedScalar.{quoted_tail, quoted_scalar}
+use Rattle.granit_scalars.proofs.QuotedForms.{QuotedForm, FrontStands, FormStands, form_value, end_of_form}
 use Rattle.granit_scalars.proofs.QuotedKept.{quoted_fresh}
-use Rattle.granit_scalars.proofs.QuotedReads.{QuotedFinds, QuotedReads, quoted_reads}
+use Rattle.granit_scalars.proofs.QuotedReads.{QuotedFinds, up_to_quote, QuotedReads, quoted_reads}
 use Rattle.granit_scalars.proofs.QuotedTail.{TailReads, tail_reads}
 use Rattle.granit_scalars.proofs.Stepping.{seen}
 use Rattle.granit_scalars.proofs.Verbatim.{text_is}
@@ -38,9 +38,7 @@ quote_seen single h y =
     s.is ∙ ap (λ c. c ∷ (step h).unread.text) y
 
 front_of : (single : Bool) (at : LayoutData) (h : Here) → next_char h ≡ quote_char single
-    → {source value gap : List ℕ} {left : Bool} {x : Between} {rest : List ℕ}
-    → QuotedFinds single at false (step h) source value gap left x rest
-    → QuotedFront single at h source value gap left x rest
+    → {x : QuotedForm} → QuotedFinds single at false (step h) x → FrontStands single at h x
 front_of single at h y f = record {
   whole = quote_seen single h y
       ∙ ap (λ (t : List ℕ). quote_char single ∷ t) f.whole;
@@ -48,29 +46,29 @@ front_of single at h y f = record {
   separated = f.separated;
 }
 
-with_tail : (single : Bool) (at : LayoutData) (h : Here) (source value gap : List ℕ) (left : Bool) (x : Between)
-    (rest text : List ℕ) (end : Here) → QuotedStands single at h source value gap left x rest
-    → text ≡ quoted_value value left x → end ≡ quoted_end single h source gap
+with_tail : (single : Bool) (at : LayoutData) (h : Here) (x : QuotedForm) (text : List ℕ) (end : Here)
+    → FormStands single at h x → text ≡ form_value x → end ≡ end_of_form single h x
     → (given : Result (QuotedRead × Here) Fault)
     → TailReads single at (mark_of h) (quoted_text single (step h) text) end given
     → QuotedAnswered single at h given
-with_tail single at h source value gap left x rest text end stands e f (Ok (read, after)) t = record {
-  source = source;
-  value = value;
-  gap = gap;
-  left = left;
-  between = x;
-  rest = rest;
+with_tail single at h x text end stands e f (Ok (read, after)) t = record {
+  source = x.source;
+  value = x.value;
+  gap = x.gap;
+  left = x.left;
+  between = x.between;
+  rest = x.rest;
   noted = t.0;
   stands = stands;
   trails = subst (λ (g : Here). Trails at (mark_of h) g t.0 after) f t.1;
   answer = t.2 ∙ ap₂ (λ (v : List ℕ) (g : Here). quoted_read single (mark_of h) (quoted_text single (step h) v)
       (mark_of g) t.0) e f
-      ∙ ap (λ (v : Written). quoted_read single (mark_of h) v (mark_of (quoted_end single h source gap)) t.0)
-      (text_is single h source value gap left x rest stands (quoted_value value left x));
+      ∙ ap (λ (v : Written). quoted_read single (mark_of h) v (mark_of (end_of_form single h x)) t.0)
+      (text_is single h x.source x.value x.gap x.left x.between x.rest stands (form_value x));
 }
-with_tail single at h source value gap left x rest text end stands e f (Err g) t = behind source value gap left x rest
-    stands (subst (λ (i : Here). WrongBehind single at (mark_of h) i g.kind g.mark) f t)
+with_tail single at h x text end stands e f (Err g) t =
+    behind x.source x.value x.gap x.left x.between x.rest stands
+    (subst (λ (i : Here). WrongBehind single at (mark_of h) i g.kind g.mark) f t)
 
 run_answers : (single : Bool) (at : LayoutData) (h : Here) → next_char h ≡ quote_char single
     → (run : Result (List ℕ × QuotedState) Fault) → QuotedReads single at (mark_of h) (quoted_at false (step h)) run
@@ -78,16 +76,19 @@ run_answers : (single : Bool) (at : LayoutData) (h : Here) → next_char h ≡ q
     (quoted_text single (step h) (x.0 ++ between_quoted x.1)) (step x.1.here))
 run_answers single at h y (Ok (text, last)) reading =
     let r = reading [] (Blanks []) (step h) (quoted_fresh at false (step h)) in
-    let stands : QuotedStands single at h r.source r.value r.gap last.escaped r.x last.here.unread.text =
+    let x = up_to_quote r.source r.value r.gap r.x last in
+    let stands : FormStands single at h x =
     record { front = front_of single at h y r.finds; closing = r.closing; placed = r.placed } in
-    with_tail single at h r.source r.value r.gap last.escaped r.x last.here.unread.text (text ++ between_quoted last)
+    with_tail single at h x (text ++ between_quoted last)
     (step last.here) stands r.value_is (ap step r.place)
     (quoted_tail single at (mark_of h) (quoted_text single (step h) (text ++ between_quoted last)) (step last.here))
     (tail_reads single at (mark_of h) (quoted_text single (step h) (text ++ between_quoted last)) (step last.here))
 run_answers single at h y (Err f) reading =
     let r = reading [] (Blanks []) (step h) (quoted_fresh at false (step h)) in
-    inside r.source r.value r.gap r.left r.x r.rest (front_of single at h y r.finds)
-    (subst (λ (g : Here). WrongInside single at (mark_of h) r.left r.x r.rest g f.kind f.mark) r.place_is r.wrong)
+    let x = r.form in
+    inside x.source x.value x.gap x.left x.between x.rest (front_of single at h y r.finds)
+    (subst (λ (g : Here). WrongInside single at (mark_of h) x.left x.between x.rest g f.kind f.mark)
+    r.place_is r.wrong)
 
 -- where its quote stands, the plain function answers what stands there
 pub quoted_answered : (single : Bool) (at : LayoutData) (h : Here) → next_char h ≡ quote_char single

@@ -8,10 +8,11 @@ use Rattle.granit_lexemes.specs.LayoutData.{LayoutData}
 use Rattle.granit_lexemes.specs.Outcome.{Fault, ◌>>=◌}
 use Rattle.granit_lexemes.specs.Pieces.{with_front}
 use Rattle.granit_lexemes.specs.PlainExtent.{over}
-use Rattle.granit_lexemes.specs.QuotedExtent.{Between, QuotedStands, quoted_end, quoted_value, AnswersQuoted}
+use Rattle.granit_lexemes.specs.QuotedExtent.{quoted_end, quoted_value, AnswersQuoted}
 use Rattle.granit_lexemes.specs.QuotedScalar.{QuotedState, QuotedRead, quote_char, between_quoted, quoted_at}
 use Rattle.granit_lexemes.specs.QuotedScalar.{quoted_read, quoted_text, quoted_tail, quoted_scalar, quoted_rest}
 use Rattle.granit_scalars.proofs.QuotedEscapes.{text_behind, over_text}
+use Rattle.granit_scalars.proofs.QuotedForms.{QuotedForm, FormStands, form_value}
 use Rattle.granit_scalars.proofs.QuotedRuns.{inside_runs, closes}
 use Rattle.granit_scalars.proofs.QuotedTail.{tail_answers}
 use Rattle.granit_scalars.proofs.Stepping.{over-append}
@@ -21,34 +22,33 @@ abbrev pub run : Bool → LayoutData → Here → Result (List ℕ × QuotedStat
 run single at h = quoted_rest single at (mark_of h) (quoted_at false (step h))
 
 -- what is read between the quotes
-pub record Body (single : Bool) (at : LayoutData) (h : Here) (source value gap : List ℕ) (left : Bool) (x : Between)
-    (rest : List ℕ) : Type 0 where
+pub record Body (single : Bool) (at : LayoutData) (h : Here) (x : QuotedForm) : Type 0 where
   pub after : QuotedState
   pub text : List ℕ
   pub gives : run single at h ≡ Ok (text, after)
-  pub here : after.here ≡ over (source ++ gap) (step h)
-  pub behind : after.here.unread.text ≡ rest
-  pub spells : text ++ between_quoted after ≡ quoted_value value left x
+  pub here : after.here ≡ over (x.source ++ x.gap) (step h)
+  pub behind : after.here.unread.text ≡ x.rest
+  pub spells : text ++ between_quoted after ≡ form_value x
 
-pub body : (single : Bool) (at : LayoutData) (h : Here) (source value gap : List ℕ) (left : Bool) (x : Between)
-    (rest : List ℕ) → QuotedStands single at h source value gap left x rest
-    → Body single at h source value gap left x rest
-body single at h source value gap left x rest p =
+pub body : (single : Bool) (at : LayoutData) (h : Here) (x : QuotedForm) → FormStands single at h x
+    → Body single at h x
+body single at h x p =
     let front = p.front in
-    let there : (step h).unread.text ≡ source ++ (gap ++ rest) = text_behind h (quote_char single)
-    (source ++ (gap ++ rest)) front.whole in
-    let past = over source (step h) in
-    let up = closes single at (mark_of h) left past front.separated
-    (over_text source (gap ++ rest) (step h) there) p.closing p.placed in
-    let lands : up.after.here ≡ over (source ++ gap) (step h) = up.here ∙ sym (over-append source gap (step h)) in
+    let there : (step h).unread.text ≡ x.source ++ (x.gap ++ x.rest) = text_behind h (quote_char single)
+    (x.source ++ (x.gap ++ x.rest)) front.whole in
+    let past = over x.source (step h) in
+    let up = closes single at (mark_of h) x.left past front.separated
+    (over_text x.source (x.gap ++ x.rest) (step h) there) p.closing p.placed in
+    let lands : up.after.here ≡ over (x.source ++ x.gap) (step h) =
+    up.here ∙ sym (over-append x.source x.gap (step h)) in
     record {
       after = up.after;
-      text = value ++ [];
-      gives = inside_runs single at (mark_of h) front.inside (step h) there ∙ ap (with_front value) up.gives;
+      text = x.value ++ [];
+      gives = inside_runs single at (mark_of h) front.inside (step h) there ∙ ap (with_front x.value) up.gives;
       here = lands;
       behind = ap (λ (g : Here). g.unread.text) lands
-          ∙ over_text (source ++ gap) rest (step h) (there ∙ sym (append_assoc source gap rest));
-      spells = ap₂ (λ (s t : List ℕ). s ++ t) (append-nil value) up.between;
+          ∙ over_text (x.source ++ x.gap) x.rest (step h) (there ∙ sym (append_assoc x.source x.gap x.rest));
+      spells = ap₂ (λ (s t : List ℕ). s ++ t) (append-nil x.value) up.between;
     }
 
 pub answer_of : (single : Bool) (at : LayoutData) (h : Here) (given : Result (List ℕ
@@ -63,7 +63,15 @@ pub quoted_is_answered : (single : Bool) (at : LayoutData) (h : Here) (read : Qu
     → AnswersQuoted single at h read after → quoted_scalar single at h ≡ Ok (read, after)
 unfolding quoted_scalar
 quoted_is_answered single at h read after p =
-    let b = body single at h p.source p.value p.gap p.left p.between p.rest p.stands in
+    let x : QuotedForm = record {
+      source = p.source;
+      value = p.value;
+      gap = p.gap;
+      left = p.left;
+      between = p.between;
+      rest = p.rest;
+    } in
+    let b = body single at h x p.stands in
     let end = quoted_end single h p.source p.gap in
     let value = quoted_value p.value p.left p.between in
     answer_of single at h (run single at h) b.text b.after b.gives
@@ -87,24 +95,24 @@ same_body given text other last after e f =
     let p : both text last ≡ both other after = cc in
     (ap (λ (x : List ℕ × QuotedState). x.0) p, ap (λ (x : List ℕ × QuotedState). x.1) p)
 
+form_text : (single : Bool) (at : LayoutData) (h : Here) (x : QuotedForm) → FormStands single at h x
+    → (step h).unread.text ≡ (x.source ++ x.gap) ++ x.rest
+form_text single at h x p = text_behind h (quote_char single) (x.source ++ (x.gap ++ x.rest)) p.front.whole
+    ∙ sym (append_assoc x.source x.gap x.rest)
+
 -- what stands between the quotes, what it spells, and what stands behind it are known by where it stands
-pub one_quoted : (single : Bool) (at : LayoutData) (h : Here) (source value gap : List ℕ) (left : Bool) (x : Between)
-    (rest : List ℕ) (other spelled further : List ℕ) (right : Bool) (y : Between) (behind : List ℕ)
-    → QuotedStands single at h source value gap left x rest
-    → QuotedStands single at h other spelled further right y behind → (source ++ gap ≡ other ++ further)
-    × (quoted_value value left x ≡ quoted_value spelled right y) × (rest ≡ behind)
-one_quoted single at h source value gap left x rest other spelled further right y behind p q =
-    let a = body single at h source value gap left x rest p in
-    let b = body single at h other spelled further right y behind q in
+pub one_quoted : (single : Bool) (at : LayoutData) (h : Here) (x y : QuotedForm) → FormStands single at h x
+    → FormStands single at h y
+    → (x.source ++ x.gap ≡ y.source ++ y.gap) × (form_value x ≡ form_value y) × (x.rest ≡ y.rest)
+one_quoted single at h x y p q =
+    let a = body single at h x p in
+    let b = body single at h y q in
     let s = same_body (run single at h) a.text b.text a.after b.after a.gives b.gives in
-    let same_rest : rest ≡ behind = sym a.behind ∙ ap (λ (t : QuotedState). t.here.unread.text) s.1 ∙ b.behind in
-    let mine : (step h).unread.text ≡ (source ++ gap) ++ rest = text_behind h (quote_char single)
-    (source ++ (gap ++ rest)) p.front.whole ∙ sym (append_assoc source gap rest) in
-    let theirs : (step h).unread.text ≡ (other ++ further) ++ behind = text_behind h (quote_char single)
-    (other ++ (further ++ behind)) q.front.whole ∙ sym (append_assoc other further behind) in
-    let joined : (source ++ gap) ++ rest ≡ (other ++ further) ++ rest = sym mine ∙ theirs
-    ∙ ap (λ (t : List ℕ). (other ++ further) ++ t) (sym same_rest) in (
-      append_cancel_right (source ++ gap) (other ++ further) rest joined,
+    let same_rest : x.rest ≡ y.rest = sym a.behind ∙ ap (λ (t : QuotedState). t.here.unread.text) s.1 ∙ b.behind in
+    let joined : (x.source ++ x.gap) ++ x.rest ≡ (y.source ++ y.gap) ++ x.rest = sym (form_text single at h x p)
+    ∙ form_text single at h y q
+    ∙ ap (λ (t : List ℕ). (y.source ++ y.gap) ++ t) (sym same_rest) in (
+      append_cancel_right (x.source ++ x.gap) (y.source ++ y.gap) x.rest joined,
       sym a.spells ∙ ap₂ (λ (t : List ℕ) (l : QuotedState). t ++ between_quoted l) s.0 s.1 ∙ b.spells,
       same_rest,
     )

@@ -25,6 +25,7 @@ use Rattle.granit_lexemes.specs.QuotedScalar.{quoted_piece, quoted_content, quot
 use Rattle.granit_lexemes.proofs.HereLemmas.{not_empty}
 use Rattle.granit_scalars.proofs.PlainReads.{not_right}
 use Rattle.granit_scalars.proofs.QuotedEscapes.{ReadsEscape, reads_escape}
+use Rattle.granit_scalars.proofs.QuotedForms.{QuotedForm}
 use Rattle.granit_scalars.proofs.QuotedKept.{StateIs, QuotedStays, quoted_fresh, between_is, QuotedGoes, quoted_blank}
 use Rattle.granit_scalars.proofs.QuotedKept.{quoted_break}
 use Rattle.granit_scalars.proofs.QuotedTurns.{closing_is, tab_meets, strict_meets, loose_meets, mark_meets, Placed}
@@ -36,11 +37,22 @@ use Rattle.granit_scalars.proofs.Stepping.{over-append, Seen, seen_as, second_of
 use Rattle.granit_scalars.proofs.Turning.{Carries, pieces_hold}
 
 -- the rest of a scalar, behind content that ends here
-pub record QuotedFinds (single : Bool) (at : LayoutData) (escaped : Bool) (behind : Here) (source value gap : List ℕ)
-    (left : Bool) (x : Between) (rest : List ℕ) : Type 0 where
-  pub whole : behind.unread.text ≡ source ++ (gap ++ rest)
-  pub inside : Inside single at escaped source (gap ++ rest) value left
-  pub separated : Separates at gap rest x
+pub record QuotedFinds (single : Bool) (at : LayoutData) (escaped : Bool) (behind : Here)
+    (x : QuotedForm) : Type 0 where
+  pub whole : behind.unread.text ≡ x.source ++ (x.gap ++ x.rest)
+  pub inside : Inside single at escaped x.source (x.gap ++ x.rest) x.value x.left
+  pub separated : Separates at x.gap x.rest x.between
+
+-- a scalar up to where reading stands
+abbrev pub up_to_quote : (source value gap : List ℕ) → Between → QuotedState → QuotedForm
+up_to_quote source value gap between s = record {
+  source = source;
+  value = value;
+  gap = gap;
+  left = s.escaped;
+  between = between;
+  rest = s.here.unread.text;
+}
 
 -- up to the closing quote
 pub record FindsQuote (single : Bool) (at : LayoutData) (escaped : Bool) (behind : Here) (text : List ℕ)
@@ -49,7 +61,7 @@ pub record FindsQuote (single : Bool) (at : LayoutData) (escaped : Bool) (behind
   pub value : List ℕ
   pub gap : List ℕ
   pub x : Between
-  pub finds : QuotedFinds single at escaped behind source value gap after.escaped x after.here.unread.text
+  pub finds : QuotedFinds single at escaped behind (up_to_quote source value gap x after)
   pub place : after.here ≡ over (source ++ gap) behind
   pub closing : is_closing single after.here.unread.text ≡ true
   pub placed : MayStand single at after.escaped x after.here.unread.text
@@ -58,16 +70,11 @@ pub record FindsQuote (single : Bool) (at : LayoutData) (escaped : Bool) (behind
 -- up to what is wrong
 pub record FindsWrong (single : Bool) (at : LayoutData) (start : Mark) (escaped : Bool) (behind : Here)
     (f : Fault) : Type 0 where
-  pub source : List ℕ
-  pub value : List ℕ
-  pub gap : List ℕ
-  pub left : Bool
-  pub x : Between
-  pub rest : List ℕ
+  pub form : QuotedForm
   pub place : Here
-  pub finds : QuotedFinds single at escaped behind source value gap left x rest
-  pub place_is : place ≡ over (source ++ gap) behind
-  pub wrong : WrongInside single at start left x rest place f.kind f.mark
+  pub finds : QuotedFinds single at escaped behind form
+  pub place_is : place ≡ over (form.source ++ form.gap) behind
+  pub wrong : WrongInside single at start form.left form.between form.rest place f.kind f.mark
 
 abbrev pub QuotedReads : Bool → LayoutData → Mark → QuotedState → Result (List ℕ × QuotedState) Fault → Type 0
 QuotedReads single at start s (Ok (text, after)) = (gap : List ℕ) (x : Between) (behind : Here)
@@ -91,11 +98,18 @@ lengthens single at start s after on (Err f) reads = λ gap x behind h. let k =
 
 -- ---- content
 
--- a piece of content, and what stands behind it
-record Taken (single : Bool) (h : Here) (piece taken : List ℕ) (escapes : Bool) (after : Here) : Type 0 where
-  text : h.unread.text ≡ piece ++ after.unread.text
-  is : Piece single piece after.unread.text taken escapes
-  lands : after ≡ over piece h
+-- a piece of content, what it spells, whether it is an escaped break, and where reading then stands
+record PieceRead : Type 0 where
+  piece : List ℕ
+  taken : List ℕ
+  escapes : Bool
+  after : Here
+
+-- it stands here
+record Taken (single : Bool) (h : Here) (r : PieceRead) : Type 0 where
+  text : h.unread.text ≡ r.piece ++ r.after.unread.text
+  is : Piece single r.piece r.after.unread.text r.taken r.escapes
+  lands : r.after ≡ over r.piece h
 
 both_no : (s f left closing : Bool) → ((s && f) && left) ≡ false → ((not f && (s || not closing)) && left) ≡ false
     → (left && not (not s && (f || closing))) ≡ false
@@ -133,23 +147,27 @@ may_stand single at (Lines empty column) s k p = (
       ∙ not_right s.on_new_line (s.here.place.column == 0 && is_document_mark s.here.unread.text) p.no_mark k.1,
 )
 
-inside_on : (single : Bool) (at : LayoutData) (s : QuotedState) (piece taken : List ℕ) (escapes : Bool) (after : Here)
-    → Taken single s.here piece taken escapes after → Placed single at s
-    → (gap : List ℕ) (x : Between) (behind : Here) → QuotedStays at gap x behind s
-    → (source value further : List ℕ) (left : Bool) (y : Between) (rest : List ℕ)
-    → QuotedFinds single at escapes after source value further left y rest
-    → QuotedFinds single at s.escaped behind (gap ++ (piece ++ source))
-    (between_text s.escaped x ++ (taken ++ value)) further left y rest
-inside_on single at s piece taken escapes after t p gap x behind h source value further left y rest f =
-    let there : s.here.unread.text ≡ piece ++ (source ++ (further ++ rest)) = t.text
-    ∙ ap (λ (u : List ℕ). piece ++ u) f.whole in
+-- a scalar with a gap and a piece in front
+abbrev piece_in_front : Bool → (gap : List ℕ) → Between → PieceRead → QuotedForm → QuotedForm
+piece_in_front escaped gap between r x = record x {
+  source = gap ++ (r.piece ++ x.source);
+  value = between_text escaped between ++ (r.taken ++ x.value);
+}
+
+inside_on : (single : Bool) (at : LayoutData) (s : QuotedState) (r : PieceRead) → Taken single s.here r
+    → Placed single at s → (gap : List ℕ) (between : Between) (behind : Here) → QuotedStays at gap between behind s
+    → (x : QuotedForm) → QuotedFinds single at r.escapes r.after x
+    → QuotedFinds single at s.escaped behind (piece_in_front s.escaped gap between r x)
+inside_on single at s r t p gap between behind h x f =
+    let there : s.here.unread.text ≡ r.piece ++ (x.source ++ (x.gap ++ x.rest)) = t.text
+    ∙ ap (λ (u : List ℕ). r.piece ++ u) f.whole in
     record {
-      whole = h.text ∙ ap (λ (u : List ℕ). gap ++ u) (there ∙ sym (append_assoc piece source (further ++ rest)))
-          ∙ sym (append_assoc gap (piece ++ source) (further ++ rest));
-      inside = content x refl refl
-          (subst (λ (u : List ℕ). Separates at gap u x) there h.separated)
-          (subst (λ (u : List ℕ). Piece single piece u taken escapes) f.whole t.is)
-          (subst (MayStand single at s.escaped x) there (may_stand single at x s h.state p))
+      whole = h.text ∙ ap (λ (u : List ℕ). gap ++ u) (there ∙ sym (append_assoc r.piece x.source (x.gap ++ x.rest)))
+          ∙ sym (append_assoc gap (r.piece ++ x.source) (x.gap ++ x.rest));
+      inside = content between refl refl
+          (subst (λ (u : List ℕ). Separates at gap u between) there h.separated)
+          (subst (λ (u : List ℕ). Piece single r.piece u r.taken r.escapes) f.whole t.is)
+          (subst (MayStand single at s.escaped between) there (may_stand single at between s h.state p))
           f.inside;
       separated = f.separated;
     }
@@ -169,57 +187,46 @@ value_on b c taken text w value z e f =
     ∙ ap (λ (u : List ℕ). u ++ (taken ++ (value ++ z))) e
     ∙ ap (λ (u : List ℕ). c ++ u) (sym (append_assoc taken value z)) ∙ sym (append_assoc c (taken ++ value) z)
 
-takes : (single : Bool) (at : LayoutData) (start : Mark) (s : QuotedState) (piece taken : List ℕ) (escapes : Bool)
-    (after : Here) → Taken single s.here piece taken escapes after → Placed single at s
-    → (given : Result (List ℕ × QuotedState) Fault) → QuotedReads single at start (quoted_at escapes after) given
-    → QuotedReads single at start s (with_front (between_quoted s ++ taken) given)
-takes single at start s piece taken escapes after t p (Ok (text, last)) reads = λ gap x behind h.
-    let r = reads [] (Blanks []) after (quoted_fresh at escapes after) in
+takes : (single : Bool) (at : LayoutData) (start : Mark) (s : QuotedState) (r : PieceRead) → Taken single s.here r
+    → Placed single at s → (given : Result (List ℕ × QuotedState) Fault)
+    → QuotedReads single at start (quoted_at r.escapes r.after) given
+    → QuotedReads single at start s (with_front (between_quoted s ++ r.taken) given)
+takes single at start s r t p (Ok (text, last)) reads = λ gap x behind h.
+    let q = reads [] (Blanks []) r.after (quoted_fresh at r.escapes r.after) in
     record {
-      source = gap ++ (piece ++ r.source);
-      value = between_text s.escaped x ++ (taken ++ r.value);
-      gap = r.gap;
-      x = r.x;
-      finds = inside_on single at s piece taken escapes after t p gap x behind h r.source r.value r.gap last.escaped r.x
-          last.here.unread.text r.finds;
-      place = place_on gap piece r.source r.gap behind s.here after last.here h.here t.lands r.place;
-      closing = r.closing;
-      placed = r.placed;
-      value_is = value_on (between_quoted s) (between_text s.escaped x) taken text (between_quoted last) r.value
-          (between_text last.escaped r.x) (between_is x s h.state) r.value_is;
+      source = gap ++ (r.piece ++ q.source);
+      value = between_text s.escaped x ++ (r.taken ++ q.value);
+      gap = q.gap;
+      x = q.x;
+      finds = inside_on single at s r t p gap x behind h (up_to_quote q.source q.value q.gap q.x last) q.finds;
+      place = place_on gap r.piece q.source q.gap behind s.here r.after last.here h.here t.lands q.place;
+      closing = q.closing;
+      placed = q.placed;
+      value_is = value_on (between_quoted s) (between_text s.escaped x) r.taken text (between_quoted last) q.value
+          (between_text last.escaped q.x) (between_is x s h.state) q.value_is;
     }
-takes single at start s piece taken escapes after t p (Err f) reads = λ gap x behind h.
-    let r = reads [] (Blanks []) after (quoted_fresh at escapes after) in
+takes single at start s r t p (Err f) reads = λ gap x behind h.
+    let q = reads [] (Blanks []) r.after (quoted_fresh at r.escapes r.after) in
     record {
-      source = gap ++ (piece ++ r.source);
-      value = between_text s.escaped x ++ (taken ++ r.value);
-      gap = r.gap;
-      left = r.left;
-      x = r.x;
-      rest = r.rest;
-      place = r.place;
-      finds = inside_on single at s piece taken escapes after t p gap x behind h r.source r.value r.gap r.left r.x
-          r.rest r.finds;
-      place_is = place_on gap piece r.source r.gap behind s.here after r.place h.here t.lands r.place_is;
-      wrong = r.wrong;
+      form = piece_in_front s.escaped gap x r q.form;
+      place = q.place;
+      finds = inside_on single at s r t p gap x behind h q.form q.finds;
+      place_is = place_on gap r.piece q.form.source q.form.gap behind s.here r.after q.place h.here t.lands
+          q.place_is;
+      wrong = q.wrong;
     }
 
 -- ---- what is wrong here
 
 found : (single : Bool) (at : LayoutData) (s : QuotedState) (gap : List ℕ) (x : Between) (behind : Here)
-    → QuotedStays at gap x behind s → QuotedFinds single at s.escaped behind [] [] gap s.escaped x s.here.unread.text
+    → QuotedStays at gap x behind s → QuotedFinds single at s.escaped behind (up_to_quote [] [] gap x s)
 found single at s gap x behind h = record { whole = h.text; inside = nothing; separated = h.separated }
 
 wrong_at : (single : Bool) (at : LayoutData) (start : Mark) (s : QuotedState) (f : Fault)
     → ((x : Between) → StateIs x s → WrongInside single at start s.escaped x s.here.unread.text s.here f.kind f.mark)
     → QuotedReads single at start s (Err f)
 wrong_at single at start s f w = λ gap x behind h. record {
-  source = [];
-  value = [];
-  gap = gap;
-  left = s.escaped;
-  x = x;
-  rest = s.here.unread.text;
+  form = up_to_quote [] [] gap x s;
   place = s.here;
   finds = found single at s gap x behind h;
   place_is = h.here;
@@ -333,8 +340,11 @@ two_seen h s d e n = s.is ∙ ap (λ (t : List ℕ). next_char h ∷ t) (there (
     there [] f = absurd (n (sym e ∙ second_of h s ∙ ap first f))
     there (c ∷ t) f = (seen_as (step h) c t f).is ∙ ap (λ k. k ∷ (step (step h)).unread.text) (sym (second_of h s) ∙ e)
 
+abbrev doubled_read : Here → PieceRead
+doubled_read h = record { piece = 0x27 ∷ 0x27 ∷ []; taken = 0x27 ∷ []; escapes = false; after = step (step h) }
+
 taken_doubled : (single : Bool) (h : Here) → Seen h → single ≡ true → next_char h ≡ 0x27
-    → is_closing single h.unread.text ≡ false → Taken single h (0x27 ∷ 0x27 ∷ []) (0x27 ∷ []) false (step (step h))
+    → is_closing single h.unread.text ≡ false → Taken single h (doubled_read h)
 taken_doubled single h s y e c =
     let open_one : (next_char h == 0x27
     && not (true && slice_index h.unread.text 1 == 0x27)) ≡ false = ap (λ b. next_char h == quote_char b
@@ -362,7 +372,9 @@ escape_reads : (single : Bool) (at : LayoutData) (start : Mark) (s : QuotedState
     → (r : Result (ℕ × Here) Fault) → ReadsEscape start (step s.here) r
     → Carries (QuotedReads single at start) s (r >>= quoted_piece s)
 escape_reads single at start s p there y e b (Ok (c, after)) read =
-    takes single at start s (0x5C ∷ read.characters) (c ∷ []) false after (record {
+    takes single at start s
+    (record { piece = 0x5C ∷ read.characters; taken = c ∷ []; escapes = false; after = after })
+    (record {
       text = there.is ∙ ap₂ (λ n (t : List ℕ). n ∷ t) e read.text;
       is = subst (λ v. Piece v (0x5C ∷ read.characters) after.unread.text (c ∷ []) false) (sym y)
           (escape_piece read.is);
@@ -385,14 +397,19 @@ content_reads : (single : Bool) (at : LayoutData) (start : Mark) (s : QuotedStat
     → (r : Result (Option (List ℕ) × QuotedState) Fault) → ContentTurned single start s r
     → Carries (QuotedReads single at start) s r
 content_reads single at start s p n pr c r (at_a_doubled y e) =
-    takes single at start s (0x27 ∷ 0x27 ∷ []) (0x27 ∷ []) false (step (step s.here))
+    takes single at start s (doubled_read s.here)
     (taken_doubled single s.here (seen_there s.here n) y e c) p
 content_reads single at start s p n pr c r (at_itself y z) =
     let there = seen_there s.here n in
     let open_one : (next_char s.here == quote_char single
     && not (single && slice_index s.here.unread.text 1 == 0x27)) ≡ false = sym (closing_is single s.here.unread.text)
     ∙ c in
-    takes single at start s (next_char s.here ∷ []) (next_char s.here ∷ []) false (step s.here)
+    takes single at start s (record {
+      piece = next_char s.here ∷ [];
+      taken = next_char s.here ∷ [];
+      escapes = false;
+      after = step s.here;
+    })
     (record {
       text = there.is;
       is = itself (literal_of single (next_char s.here)
@@ -403,13 +420,14 @@ content_reads single at start s p n pr c r (at_escaped_break y e b) =
     let there = seen_there s.here n in
     let next_break : is_break (first (step s.here).unread.text) ≡ true = ap is_break (sym (second_of s.here there))
     ∙ b in
-    let t : Taken single s.here (0x5C ∷ []) [] true (step s.here) = record {
+    let r : PieceRead = record { piece = 0x5C ∷ []; taken = []; escapes = true; after = step s.here } in
+    let t : Taken single s.here r = record {
       text = there.is ∙ ap (λ k. k ∷ (step s.here).unread.text) e;
       is = subst (λ v. Piece v (0x5C ∷ []) (step s.here).unread.text [] true) (sym y) (before_break next_break);
       lands = refl;
     } in
     λ given reads. subst (λ (f : List ℕ). QuotedReads single at start s (with_front f given))
-    (append-nil (between_quoted s)) (takes single at start s (0x5C ∷ []) [] true (step s.here) t p given reads)
+    (append-nil (between_quoted s)) (takes single at start s r t p given reads)
 content_reads single at start s p n pr c r (at_an_escape y e b) =
     escape_reads single at start s p (seen_there s.here n) y e b (escape_or start (step s.here))
     (reads_escape start (step s.here))

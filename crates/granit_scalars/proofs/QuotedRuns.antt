@@ -7,7 +7,7 @@ use Rattle.std.proofs.lemmas.Bool.Decides.{nat_tests}
 use Rattle.granit_base.specs.Classes.{is_blank, is_break, is_gap, is_printable}
 use Rattle.granit_base.specs.Place.{Mark, first}
 use Rattle.granit_lexemes.specs.Decoding.{letter_value, digit_count, Escape, letter, number, halves}
-use Rattle.granit_lexemes.specs.Here.{Here, next_char, step, text_len}
+use Rattle.granit_lexemes.specs.Here.{Here, next_char, step}
 use Rattle.granit_lexemes.specs.LayoutData.{LayoutData, is_left}
 use Rattle.granit_lexemes.specs.Outcome.{◌>>=◌}
 use Rattle.granit_lexemes.specs.Pieces.{with_front}
@@ -26,16 +26,16 @@ use Rattle.granit_scalars.proofs.PlainReads.{neither_gap}
 use Rattle.granit_scalars.proofs.QuotedEscapes.{over_text, escape_is}
 use Rattle.granit_scalars.proofs.QuotedGaps.{gap_runs}
 use Rattle.granit_scalars.proofs.QuotedKept.{StateIs, between_is}
-use Rattle.granit_scalars.proofs.QuotedTurns.{closing_is, tab_meets, strict_meets, loose_meets, mark_meets, Placed}
-use Rattle.granit_scalars.proofs.QuotedTurns.{turn_chain, turn_is, quoted_shortens}
+use Rattle.granit_scalars.proofs.QuotedTurns.{closing_is, Placed, QuotedTests, tests_at}
+use Rattle.granit_scalars.proofs.QuotedTurns.{turn_on_tests, turn_is, quoted_shortens}
 use Rattle.granit_scalars.proofs.Stepping.{over-append}
 
 -- ---- over content
 
-chain_at : (single : Bool) (start : Mark) (s : QuotedState) (a t b d e f g p c : Bool) → a ≡ false → b ≡ false
-    → d ≡ false → e ≡ false → f ≡ false → g ≡ false → p ≡ true
-    → turn_chain single start s a t b d e f g p c ≡ cond c (Ok (None, s)) (quoted_content single start s)
-chain_at single start s a t b d e f g p c ha hb hd he hf hg hp = rw (ha, hb, hd, he, hf, hg, hp) refl
+chain_at : (single : Bool) (start : Mark) (s : QuotedState) (x : QuotedTests) → x.blank ≡ false
+    → x.line_break ≡ false → x.strict ≡ false → x.loose ≡ false → x.mark ≡ false → x.ended ≡ false → x.prints ≡ true
+    → turn_on_tests single start s x ≡ cond x.closing (Ok (None, s)) (quoted_content single start s)
+chain_at single start s x ha hb hd he hf hg hp = rw (ha, hb, hd, he, hf, hg, hp) refl
 
 line_no : (line test : Bool) → (line ≡ true → test ≡ false) → (line && test) ≡ false
 line_no true test e = e refl
@@ -107,9 +107,7 @@ turn_at single at start x s i m b =
     let p = placed single at x s i m b.no_gap in
     let n = neither_gap (next_char s.here) b.no_gap in
     turn_is single at start s
-    ∙ chain_at single start s (is_blank (next_char s.here)) (tab_meets at s) (is_break (next_char s.here))
-    (strict_meets at s) (loose_meets single at s) (mark_meets s) (text_len s.here == 0)
-    (is_printable (next_char s.here)) (is_closing single s.here.unread.text)
+    ∙ chain_at single start s (tests_at single at s)
     n.0 n.1 p.no_strict p.no_loose p.no_mark b.some b.prints
 
 -- a piece that stands there is taken

@@ -70,59 +70,93 @@ pub data QuotedTurned (single : Bool) (at : LayoutData) (start : Mark) (s : Quot
   in_content : Placed single at s → (text_len s.here == 0) ≡ false → is_printable (next_char s.here) ≡ true
       → is_closing single s.here.unread.text ≡ false → QuotedTurned single at start s (quoted_content single start s)
 
-abbrev pub turn_chain : Bool → Mark → QuotedState → (a t b d e f g p c : Bool)
-    → Result (Option (List ℕ) × QuotedState) Fault
-turn_chain single start s a t b d e f g p c =
-    if a then (if t then fails_at TabInIndentation (mark_of s.here) else Ok (Some [], over_blank s))
-    else if b then Ok (Some [], over_break s)
-    else if d then fails_at InvalidIndentation (mark_of s.here)
-    else if e then fails_at InvalidQuotedScalarIndent (mark_of s.here)
-    else if f then fails_at DocumentIndicatorInQuotedScalar start
-    else if g then fails_at UnclosedQuotedScalar start
-    else if not p then fails_at (UnexpectedCharacter (next_char s.here)) (mark_of s.here)
-    else if c then Ok (None, s)
+-- the tests of a turn
+pub record QuotedTests : Type 0 where
+  pub blank : Bool
+  pub tab : Bool
+  pub line_break : Bool
+  pub strict : Bool
+  pub loose : Bool
+  pub mark : Bool
+  pub ended : Bool
+  pub prints : Bool
+  pub closing : Bool
+
+abbrev pub tests_at : Bool → LayoutData → QuotedState → QuotedTests
+tests_at single at s = record {
+  blank = is_blank (next_char s.here);
+  tab = tab_meets at s;
+  line_break = is_break (next_char s.here);
+  strict = strict_meets at s;
+  loose = loose_meets single at s;
+  mark = mark_meets s;
+  ended = text_len s.here == 0;
+  prints = is_printable (next_char s.here);
+  closing = is_closing single s.here.unread.text;
+}
+
+-- a turn by its tests, in their order
+abbrev pub turn_on_tests : Bool → Mark → QuotedState → QuotedTests → Result (Option (List ℕ) × QuotedState) Fault
+turn_on_tests single start s x =
+    if x.blank then (if x.tab then fails_at TabInIndentation (mark_of s.here) else Ok (Some [], over_blank s))
+    else if x.line_break then Ok (Some [], over_break s)
+    else if x.strict then fails_at InvalidIndentation (mark_of s.here)
+    else if x.loose then fails_at InvalidQuotedScalarIndent (mark_of s.here)
+    else if x.mark then fails_at DocumentIndicatorInQuotedScalar start
+    else if x.ended then fails_at UnclosedQuotedScalar start
+    else if not x.prints then fails_at (UnexpectedCharacter (next_char s.here)) (mark_of s.here)
+    else if x.closing then Ok (None, s)
     else quoted_content single start s
 
-turned_as : (single : Bool) (at : LayoutData) (start : Mark) (s : QuotedState) (a t b d e f g p c : Bool)
-    → is_blank (next_char s.here) ≡ a → tab_meets at s ≡ t → is_break (next_char s.here) ≡ b → strict_meets at s ≡ d
-    → loose_meets single at s ≡ e → mark_meets s ≡ f → (text_len s.here == 0) ≡ g → is_printable (next_char s.here) ≡ p
-    → is_closing single s.here.unread.text ≡ c
-    → QuotedTurned single at start s (turn_chain single start s a t b d e f g p c)
-turned_as single at start s true true b d e f g p c ya yt yb yd ye yf yg yp yc = at_a_tab yt
-turned_as single at start s true false b d e f g p c ya yt yb yd ye yf yg yp yc = past_a_blank ya yt
-turned_as single at start s false t true d e f g p c ya yt yb yd ye yf yg yp yc = past_a_break yb
-turned_as single at start s false t false true e f g p c ya yt yb yd ye yf yg yp yc =
-    at_strict (no_gap_of (next_char s.here) ya yb) yd
-turned_as single at start s false t false false true f g p c ya yt yb yd ye yf yg yp yc =
-    at_loose (no_gap_of (next_char s.here) ya yb) ye
-turned_as single at start s false t false false false true g p c ya yt yb yd ye yf yg yp yc = at_a_mark yd ye yf
-turned_as single at start s false t false false false false true p c ya yt yb yd ye yf yg yp yc =
-    at_the_end (record { no_gap = no_gap_of (next_char s.here) ya yb; no_strict = yd; no_loose = ye; no_mark = yf }) yg
-turned_as single at start s false t false false false false false false c ya yt yb yd ye yf yg yp yc =
-    at_a_character
-    (record { no_gap = no_gap_of (next_char s.here) ya yb; no_strict = yd; no_loose = ye; no_mark = yf }) yg yp
-turned_as single at start s false t false false false false false true true ya yt yb yd ye yf yg yp yc =
-    at_the_quote
-    (record { no_gap = no_gap_of (next_char s.here) ya yb; no_strict = yd; no_loose = ye; no_mark = yf }) yc
-turned_as single at start s false t false false false false false true false ya yt yb yd ye yf yg yp yc =
-    in_content
-    (record { no_gap = no_gap_of (next_char s.here) ya yb; no_strict = yd; no_loose = ye; no_mark = yf }) yg yp yc
-
-pub turn_is : (single : Bool) (at : LayoutData) (start : Mark) (s : QuotedState) → quoted_turn single at start s
-    ≡ turn_chain single start s (is_blank (next_char s.here)) (tab_meets at s) (is_break (next_char s.here))
-    (strict_meets at s) (loose_meets single at s) (mark_meets s) (text_len s.here == 0)
-    (is_printable (next_char s.here)) (is_closing single s.here.unread.text)
+pub turn_is : (single : Bool) (at : LayoutData) (start : Mark) (s : QuotedState)
+    → quoted_turn single at start s ≡ turn_on_tests single start s (tests_at single at s)
 unfolding quoted_turn
 turn_is single at start s = refl
 
-pub quoted_turned : (single : Bool) (at : LayoutData) (start : Mark) (s : QuotedState)
-    → QuotedTurned single at start s (quoted_turn single at start s)
-unfolding quoted_turn
-quoted_turned single at start s =
-    turned_as single at start s (is_blank (next_char s.here)) (tab_meets at s) (is_break (next_char s.here))
-    (strict_meets at s) (loose_meets single at s) (mark_meets s) (text_len s.here == 0)
-    (is_printable (next_char s.here)) (is_closing single s.here.unread.text)
-    refl refl refl refl refl refl refl refl refl
+module _ (single : Bool) (at : LayoutData) (start : Mark) (s : QuotedState) where
+  -- at a gap, or else as what follows
+  gap_turned : (a t b : Bool) (r : Result (Option (List ℕ) × QuotedState) Fault)
+      → is_blank (next_char s.here) ≡ a → tab_meets at s ≡ t → is_break (next_char s.here) ≡ b
+      → (is_gap (next_char s.here) ≡ false → QuotedTurned single at start s r)
+      → QuotedTurned single at start s (if a then
+      (if t then fails_at TabInIndentation (mark_of s.here) else Ok (Some [], over_blank s))
+      else if b then Ok (Some [], over_break s) else r)
+  gap_turned true true b r ya yt yb on = at_a_tab yt
+  gap_turned true false b r ya yt yb on = past_a_blank ya yt
+  gap_turned false t true r ya yt yb on = past_a_break yb
+  gap_turned false t false r ya yt yb on = on (no_gap_of (next_char s.here) ya yb)
+
+  -- where nothing may stand, or else as what follows
+  place_turned : (d e f : Bool) (r : Result (Option (List ℕ) × QuotedState) Fault) → is_gap (next_char s.here) ≡ false
+      → strict_meets at s ≡ d → loose_meets single at s ≡ e → mark_meets s ≡ f
+      → (Placed single at s → QuotedTurned single at start s r)
+      → QuotedTurned single at start s (if d then fails_at InvalidIndentation (mark_of s.here)
+      else if e then fails_at InvalidQuotedScalarIndent (mark_of s.here)
+      else if f then fails_at DocumentIndicatorInQuotedScalar start else r)
+  place_turned true e f r n yd ye yf on = at_strict n yd
+  place_turned false true f r n yd ye yf on = at_loose n ye
+  place_turned false false true r n yd ye yf on = at_a_mark yd ye yf
+  place_turned false false false r n yd ye yf on =
+      on (record { no_gap = n; no_strict = yd; no_loose = ye; no_mark = yf })
+
+  -- where content may stand
+  placed_turned : (g p c : Bool) → (text_len s.here == 0) ≡ g → is_printable (next_char s.here) ≡ p
+      → is_closing single s.here.unread.text ≡ c → Placed single at s
+      → QuotedTurned single at start s (if g then fails_at UnclosedQuotedScalar start
+      else if not p then fails_at (UnexpectedCharacter (next_char s.here)) (mark_of s.here)
+      else if c then Ok (None, s) else quoted_content single start s)
+  placed_turned true p c yg yp yc placed = at_the_end placed yg
+  placed_turned false false c yg yp yc placed = at_a_character placed yg yp
+  placed_turned false true true yg yp yc placed = at_the_quote placed yc
+  placed_turned false true false yg yp yc placed = in_content placed yg yp yc
+
+  pub quoted_turned : QuotedTurned single at start s (quoted_turn single at start s)
+  unfolding quoted_turn
+  quoted_turned = gap_turned (is_blank (next_char s.here)) (tab_meets at s) (is_break (next_char s.here)) _
+      refl refl refl
+      (λ n. place_turned (strict_meets at s) (loose_meets single at s) (mark_meets s) _ n refl refl refl
+      (placed_turned (text_len s.here == 0) (is_printable (next_char s.here)) (is_closing single s.here.unread.text)
+      refl refl refl))
 
 -- ---- content
 

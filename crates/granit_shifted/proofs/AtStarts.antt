@@ -1,6 +1,6 @@
 -- From a `---` on the text that is left is read as from its own start.
-use Rattle.std.proofs.Common.{◌≡◌, ℕ, suc, Bool, true, false, List, [], ◌∷◌, Option, Some, None, Result, Ok, refl}
-use Rattle.std.proofs.Common.{sym, ap, ap₂, ◌∙◌, subst}
+use Rattle.std.proofs.Common.{◌≡◌, ℕ, suc, Bool, true, false, List, [], ◌∷◌, Option, Some, None, Result, Ok, refl, sym}
+use Rattle.std.proofs.Common.{ap, ap₂, ◌∙◌, subst}
 use Rattle.granit_base.specs.Place.{Mark}
 use Rattle.granit_error.specs.OptionsData.{OptionsData}
 use Rattle.granit_lexemes.specs.Here.{Here, mark_of}
@@ -19,8 +19,8 @@ use Rattle.granit_machine.specs.ReaderState.{Read}
 use Rattle.granit_restart.proofs.AheadLaws.{turn_next}
 use Rattle.granit_restart.specs.Boundary.{is_separated}
 use Rattle.granit_restart.specs.Restart.{dropped}
-use Rattle.granit_steps.specs.Steps.{StepState, Turn, first_pending, incoming, next_event, step_size, step_turn}
-use Rattle.granit_steps.specs.Steps.{pushed, unflagged, with_read}
+use Rattle.granit_steps.specs.Steps.{StepState, Turn, first_pending, incoming, next_event, step_size, step_turn, pushed}
+use Rattle.granit_steps.specs.Steps.{unflagged, with_read}
 use Rattle.granit_steps.specs.Told.{GivesEvents}
 use Rattle.granit_shifted.proofs.AloneStates.{seen_first, afresh, gives_from, own_state}
 use Rattle.granit_shifted.proofs.LineGaps.{Seen, here_at, laid_at}
@@ -108,44 +108,6 @@ module _ (o : OptionsData) where
         },
       ) in x) (asked o.emit_comments (start_lexeme number h))
 
-  -- and it goes on as behind a `---` that was read here
-  abbrev in_first_column : Bool → Option Mark → Seen
-  in_first_column begins tab = record { column = 0; begins_line = begins; tab = tab }
-
-  start_gives : (number : ℕ) (behind : List ℕ) (offset : Option ℕ) (lends : Bool) (i n : ℕ) (begins : Bool)
-      (tab : Option Mark) (p : ParserState) (m : Mark) (es : List PlainEvent) (f : Option Fault)
-      → is_separated behind ≡ true
-      → GivesEvents o (record {
-        reading = reading_at (here_at (marked behind) offset lends i n seen_first) (laid_at number true) None;
-        queue = [];
-        parser = fresh_at m p;
-        pending = [];
-      }) es f
-      → (k : Here) → k ≡ steps 3 (here_at (marked behind) offset lends i n (in_first_column begins tab)) → (last : Mark)
-      → (y : Lexeme) → y.kind ≡ DocumentStart → y.key ≡ None → y.tail ≡ None
-      → y.shown ≡ record {
-        start = mark_of (here_at (marked behind) offset lends i n (in_first_column begins tab));
-        end = mark_of k;
-      }
-      → GivesEvents o (start_state number k y (fresh_at last p)) es f
-  start_gives number behind offset lends i n begins tab p m es f e gives k is last y kind key tail shown =
-      let own = here_at (marked behind) offset lends i n seen_first in
-      let span : Source = record { start = mark_of own; end = mark_of k } in
-      let x : Lexeme = record (start_lexeme number own) { shown = span; end = mark_of k } in
-      let same : steps 3 own ≡ k = three_alike behind offset lends i n seen_first (in_first_column begins tab) refl
-      ∙ sym is in
-      let read = gives_from o _ (start_state number (steps 3 own) (start_lexeme number own) (fresh_at m p)) es f
-      (turn_next o _ _ [] (own_turn number behind offset lends i n p m e)) gives in
-      let moved = subst (λ (k : Here). GivesEvents o (start_state number k (record (start_lexeme number own) {
-        shown = record { start = mark_of own; end = mark_of k };
-        end = mark_of k;
-      }) (fresh_at m p)) es f) same read in
-      let ended = gives_alike o _ (start_state number k x (fresh_at last p)) es f
-      (alike (same_reading _) (both_fresh m last p) _ []) moved in
-      subst (λ (y : Lexeme). GivesEvents o (start_state number k y (fresh_at last p)) es f)
-      (as_it_is y span kind key tail shown)
-      (gives_from o _ _ es f (begins_next number k x y span p last) ended)
-
   -- ---- a `---` that waits
 
   -- it gives what the text does that is left, where nothing of that was read
@@ -157,17 +119,36 @@ module _ (o : OptionsData) where
       → GivesEvents o (start_state s.reading.reader.laid.number k y (dropped s.parser)) es f
   waits_gives s h k y behind es f column text separated is kind key tail shown gives =
       let number = s.reading.reader.laid.number in
-      let at = λ (text : List ℕ) (column : ℕ). here_at text h.unread.offset h.unread.lends h.place.index h.place.line
-      (record { column = column; begins_line = h.begins_line; tab = h.tab }) in
+      let p = dropped s.parser in
+      let m = mark_of (afresh h) in
+      let at = λ (text : List ℕ) (seen : Seen).
+      here_at text h.unread.offset h.unread.lends h.place.index h.place.line seen in
+      let in_column = λ (column : ℕ).
+      let seen : Seen = record { column = column; begins_line = h.begins_line; tab = h.tab } in seen in
+      let there : h ≡ at (marked behind) (in_column 0) =
+      ap₂ (λ (text : List ℕ) (column : ℕ). at text (in_column column)) text column in
+      let own = at (marked behind) seen_first in
+      let span : Source = record { start = mark_of own; end = mark_of k } in
+      let x : Lexeme = record (start_lexeme number own) { shown = span; end = mark_of k } in
       let told = subst (λ (text : List ℕ). GivesEvents o (record {
-        reading = reading_at (here_at text h.unread.offset h.unread.lends h.place.index h.place.line seen_first)
-            (laid_at number true) None;
+        reading = reading_at (at text seen_first) (laid_at number true) None;
         queue = [];
-        parser = fresh_at (mark_of (afresh h)) (dropped s.parser);
+        parser = fresh_at m p;
         pending = [];
       }) es f) text gives in
-      let there : h ≡ at (marked behind) 0 = ap₂ at text column in
-      start_gives number behind h.unread.offset h.unread.lends h.place.index h.place.line h.begins_line h.tab
-      (dropped s.parser) (mark_of (afresh h)) es f separated told k (is ∙ ap (steps 3) there) s.parser.last_end y kind
-      key tail (shown ∙ ap (λ (h : Here). let span : Source = record { start = mark_of h; end = mark_of k } in span)
-      there)
+      let same : steps 3 own ≡ k =
+      three_alike behind h.unread.offset h.unread.lends h.place.index h.place.line seen_first (in_column 0) refl
+      ∙ sym (is ∙ ap (steps 3) there) in
+      let read = gives_from o _ (start_state number (steps 3 own) (start_lexeme number own) (fresh_at m p)) es f
+      (turn_next o _ _ [] (own_turn number behind h.unread.offset h.unread.lends h.place.index h.place.line p m
+      separated)) told in
+      let moved = subst (λ (k : Here). GivesEvents o (start_state number k (record (start_lexeme number own) {
+        shown = record { start = mark_of own; end = mark_of k };
+        end = mark_of k;
+      }) (fresh_at m p)) es f) same read in
+      let ended = gives_alike o _ (start_state number k x (fresh_at s.parser.last_end p)) es f
+      (alike (same_reading _) (both_fresh m s.parser.last_end p) _ []) moved in
+      let here = ap (λ (h : Here). let span : Source = record { start = mark_of h; end = mark_of k } in span) there in
+      subst (λ (y : Lexeme). GivesEvents o (start_state number k y (fresh_at s.parser.last_end p)) es f)
+      (as_it_is y span kind key tail (shown ∙ here))
+      (gives_from o _ _ es f (begins_next number k x y span p s.parser.last_end) ended)

@@ -11,7 +11,7 @@ use Rattle.granit_lexemes.proofs.PieceLemmas.{pieces_fails}
 use Rattle.granit_lexemes.specs.DirectiveExtent.{bytes_of}
 use Rattle.granit_lexemes.specs.Here.{Here, mark_of, past}
 use Rattle.granit_lexemes.specs.Lexeme as lexemes
-use Rattle.granit_lexemes.specs.Lexeme.{Item, Lexeme, LexemeKind, OfLexeme, TagPrefix}
+use Rattle.granit_lexemes.specs.Lexeme.{Item, Lexeme, OfLexeme, TagPrefix}
 use Rattle.granit_lexemes.specs.Moves.{steps}
 use Rattle.granit_lexemes.specs.Outcome.{Fault, ◌>>=◌}
 use Rattle.granit_lexemes.specs.Pieces.{pieces, turns}
@@ -64,10 +64,18 @@ one_waits h l x p = record {
 abbrev pub keeping_at : Mark → List (List ℕ × List ℕ) → ParserState
 keeping_at m kept = record (parser_start m) { kept = kept }
 
+-- where a text goes on in a stream: what stands before it, and the next lexeme's number
+pub record TextAt : Type 0 where
+  pub text : List ℕ
+  pub bytes : ℕ
+  pub index : ℕ
+  pub line : ℕ
+  pub number : ℕ
+
 -- at the start of a line, outside documents
-abbrev pub anew_at : List ℕ → (b i n number : ℕ) → Mark → List (List ℕ × List ℕ) → StepState
-anew_at text b i n number m kept =
-    quiet_at (here_at text (Some b) true i n seen_first) (laid_at number true) (keeping_at m kept)
+abbrev pub anew_at : TextAt → Mark → List (List ℕ × List ℕ) → StepState
+anew_at a m kept =
+    quiet_at (here_at a.text (Some a.bytes) true a.index a.line seen_first) (laid_at a.number true) (keeping_at m kept)
 
 -- ---- one read
 
@@ -291,70 +299,78 @@ module _ (o : OptionsData) where
   waiting_gives s e waiting es f gives = gives_event (waits_next o s e waiting) gives
 
   -- the end of the last event is of no matter
-  pub end_gives : (text : List ℕ) (b i n number : ℕ) (m k : Mark) (kept : List (List ℕ × List ℕ)) (es : List PlainEvent)
-      (f : Option Fault) → GivesEvents o (anew_at text b i n number m kept) es f
-      → GivesEvents o (anew_at text b i n number k kept) es f
-  end_gives text b i n number m k kept es f gives =
-      gives_alike o (anew_at text b i n number m kept) (anew_at text b i n number k kept) es f
+  pub end_gives : (a : TextAt) (m k : Mark) (kept : List (List ℕ × List ℕ)) (es : List PlainEvent) (f : Option Fault)
+      → GivesEvents o (anew_at a m kept) es f → GivesEvents o (anew_at a k kept) es f
+  end_gives a m k kept es f gives =
+      gives_alike o (anew_at a m kept) (anew_at a k kept) es f
       (alike (same_reading _) (both_fresh m k (keeping_at m kept)) [] []) gives
 
+  -- behind a line feed and a `...` in a line
+  abbrev dots_skipped : TextAt → TextAt
+  dots_skipped a = record a {
+    bytes = a.bytes + 1 + 1 + 1 + 1 + 1;
+    index = a.index + 1 + 1 + 1 + 1 + 1;
+    line = a.line + 1 + 1;
+    number = suc a.number;
+  }
+
   -- from the `...` on
-  dots_give : (word prefix text : List ℕ) (b i n number : ℕ) (m k : Mark) (kept : List (List ℕ × List ℕ))
-      (es : List PlainEvent) (f : Option Fault)
-      → GivesEvents o (anew_at text (b + 1 + 1 + 1 + 1 + 1) (i + 1 + 1 + 1 + 1 + 1) (n + 1 + 1) (suc number) k kept) es
-      f
-      → (end : Source) × GivesEvents o (quiet_at (here_at (0x0A ∷ dotted text) (Some b) true i n dots_seen)
-      (laid_at number false) (in_empty word prefix m kept)) (null_at m ∷ event_at DocumentEnd end ∷ es) f
-  dots_give word prefix text b i n number m k kept es f gives =
-      let g = here_at (dotted text) (Some (b + 1)) true (i + 1) (n + 1) seen_first in
-      let x = dots_lexeme number g in
-      let after = dots_end text (b + 1) (i + 1) (n + 1) in
-      let l = laid_at (suc number) true in
+  dots_give : (word prefix : List ℕ) (a : TextAt) (m k : Mark) (kept : List (List ℕ × List ℕ)) (es : List PlainEvent)
+      (f : Option Fault) → GivesEvents o (anew_at (dots_skipped a) k kept) es f
+      → (end : Source) × GivesEvents o (quiet_at
+      (here_at (0x0A ∷ dotted a.text) (Some a.bytes) true a.index a.line dots_seen) (laid_at a.number false)
+      (in_empty word prefix m kept)) (null_at m ∷ event_at DocumentEnd end ∷ es) f
+  dots_give word prefix a m k kept es f gives =
+      let g = here_at (dotted a.text) (Some (a.bytes + 1)) true (a.index + 1) (a.line + 1) seen_first in
+      let x = dots_lexeme a.number g in
+      let after = dots_end a.text (a.bytes + 1) (a.index + 1) (a.line + 1) in
+      let l = laid_at (suc a.number) true in
       let p = keeping_at x.shown.end kept in
-      let fresh = end_gives text (b + 1 + 1 + 1 + 1 + 1) (i + 1 + 1 + 1 + 1 + 1) (n + 1 + 1) (suc number) k
-      x.shown.end kept es f gives in
+      let fresh = end_gives (dots_skipped a) k x.shown.end kept es f gives in
       let quiet = gives_from o _ (quiet_at after l p) es f
-      (sym (same_read_next after _ l l p (feed_read (suc number) text (b + 1 + 1 + 1 + 1) (i + 1 + 1 + 1 + 1) (n + 1)
-      dots_seen))) fresh in
+      (sym (same_read_next after _ l l p (feed_read (suc a.number) a.text (a.bytes + 1 + 1 + 1 + 1)
+      (a.index + 1 + 1 + 1 + 1) (a.line + 1) dots_seen))) fresh in
       let e = event_at DocumentEnd x.shown in
       let ended = waiting_gives (quiet_at after l p) (null_at m) (e ∷ []) (e ∷ es) f
       (waiting_gives (quiet_at after l p) e [] es f quiet) in
       let waits = turn_leads (one_waits after l x (in_empty word prefix m kept)) _ [] _ f
-      (dots_fed after (suc number) x word prefix m kept) ended in (
+      (dots_fed after (suc a.number) x word prefix m kept) ended in (
         x.shown,
-        turn_leads _ _ [] _ f (lexeme_turn _ after (laid_at number false) l x (in_empty word prefix m kept) refl
-            (dots_read number text b i n dots_seen)) waits,
+        turn_leads _ _ [] _ f (lexeme_turn _ after (laid_at a.number false) l x (in_empty word prefix m kept) refl
+            (dots_read a.number a.text a.bytes a.index a.line dots_seen)) waits,
       )
 
+  -- behind a `---`
+  abbrev mark_skipped : TextAt → TextAt
+  mark_skipped a = record a { bytes = a.bytes + 1 + 1 + 1; index = a.index + 1 + 1 + 1; number = suc a.number }
+
   -- from the `---` on
-  marked_gives : (word prefix text : List ℕ) (b i n number : ℕ) (m k : Mark) (kept : List (List ℕ × List ℕ))
-      (es : List PlainEvent) (f : Option Fault)
-      → GivesEvents o (anew_at text (b + 1 + 1 + 1 + 1 + 1 + 1 + 1 + 1) (i + 1 + 1 + 1 + 1 + 1 + 1 + 1 + 1) (n + 1 + 1)
-      (suc (suc number)) k kept) es f
-      → EmptyBefore (quiet_at (here_at (marked (0x0A ∷ dotted text)) (Some b) true i n seen_first)
-      (laid_at number true) (behind_declaring word prefix m kept)) es f
+  marked_gives : (word prefix : List ℕ) (a : TextAt) (m k : Mark) (kept : List (List ℕ × List ℕ))
+      (es : List PlainEvent) (f : Option Fault) → GivesEvents o (anew_at (dots_skipped (mark_skipped a)) k kept) es f
+      → EmptyBefore (quiet_at
+      (here_at (marked (0x0A ∷ dotted a.text)) (Some a.bytes) true a.index a.line seen_first) (laid_at a.number true)
+      (behind_declaring word prefix m kept)) es f
   unfolding is_blank is_break encode_utf8
-  marked_gives word prefix text b i n number m k kept es f gives =
-      let g = here_at (marked (0x0A ∷ dotted text)) (Some b) true i n seen_first in
-      let x = start_lexeme number g in
+  marked_gives word prefix a m k kept es f gives =
+      let g = here_at (marked (0x0A ∷ dotted a.text)) (Some a.bytes) true a.index a.line seen_first in
+      let x = start_lexeme a.number g in
       let p = in_empty word prefix x.shown.end kept in
-      let l = laid_at (suc number) false in
-      let behind = dots_give word prefix text (b + 1 + 1 + 1) (i + 1 + 1 + 1) n (suc number) x.shown.end k kept es f
-      gives in
+      let l = laid_at (suc a.number) false in
+      let behind = dots_give word prefix (mark_skipped a) x.shown.end k kept es f gives in
       let e = event_at (DocumentStart true None) x.shown in
       let more = null_at x.shown.end ∷ event_at DocumentEnd behind.0 ∷ es in
       let there = subst (λ (h : Here). GivesEvents o (quiet_at h l p) more f)
-      (sym (three_on (0x0A ∷ dotted text) (Some b) true i n seen_first)) behind.1 in
+      (sym (three_on (0x0A ∷ dotted a.text) (Some a.bytes) true a.index a.line seen_first)) behind.1 in
       let told = waiting_gives (quiet_at (steps 3 g) l p) e [] more f there in
       let waits = turn_leads (one_waits (steps 3 g) l x (behind_declaring word prefix m kept)) _ [] _ f
-      (dashes_fed (steps 3 g) (suc number) x word prefix m kept) told in
+      (dashes_fed (steps 3 g) (suc a.number) x word prefix m kept) told in
       record {
         start = x.shown;
         end = behind.0;
         node = x.shown.end;
-        gives = turn_leads _ _ [] _ f (lexeme_turn g (steps 3 g) (laid_at number true) l x
+        gives = turn_leads _ _ [] _ f (lexeme_turn g (steps 3 g) (laid_at a.number true) l x
             (behind_declaring word prefix m kept) refl
-            (start_read o number (0x0A ∷ dotted text) (Some b) true i n refl)) waits;
+            (start_read o a.number (0x0A ∷ dotted a.text) (Some a.bytes) true a.index a.line refl)) waits;
       }
 
   -- ---- the whole
@@ -367,74 +383,92 @@ module _ (o : OptionsData) where
         → (if o.keep_tags then remembered word prefix kept else kept) ≡ remembered word prefix kept
     kept_here word prefix kept = rw keeps refl
 
-    module _ {line word prefix : List ℕ} (d : DeclaresHandle o line word prefix) (text : List ℕ) (b i n number : ℕ)
-        (m k : Mark) (kept : List (List ℕ × List ℕ)) (es : List PlainEvent) (f : Option Fault) where
+    module _ {line word prefix : List ℕ} (d : DeclaresHandle o line word prefix) (a : TextAt) (m k : Mark)
+        (kept : List (List ℕ × List ℕ)) (es : List PlainEvent) (f : Option Fault) where
       abbrev now : List (List ℕ × List ℕ)
       now = remembered word prefix kept
-
-      abbrev count_behind : ℕ
-      count_behind = suc (suc (suc number))
 
       abbrev line_and_document : List ℕ
       line_and_document = declaring d ++ empty_document
 
-      line_bytes : b + bytes_of (declaring d) + 1 + 1 + 1 + 1 + 1 + 1 + 1 + 1 + 1 ≡ b + bytes_of line_and_document
+      line_bytes : a.bytes + bytes_of (declaring d) + 1 + 1 + 1 + 1 + 1 + 1 + 1 + 1 + 1
+          ≡ a.bytes + bytes_of line_and_document
       unfolding encode_utf8
       line_bytes =
           let nine : bytes_of empty_document ≡ 9 = refl in
           omega (arith, nine, bytes-append (declaring d) empty_document)
 
-      line_length : i + length (declaring d) + 1 + 1 + 1 + 1 + 1 + 1 + 1 + 1 + 1 ≡ i + length line_and_document
+      line_length : a.index + length (declaring d) + 1 + 1 + 1 + 1 + 1 + 1 + 1 + 1 + 1
+          ≡ a.index + length line_and_document
       line_length =
           let nine : length empty_document ≡ 9 = refl in
           omega (arith, nine, length-append (declaring d) empty_document)
 
       abbrev GivesThere : (b i n : ℕ) → Type 0
-      GivesThere b i n = GivesEvents o (anew_at text b i n count_behind k now) es f
+      GivesThere b i n =
+          GivesEvents o (anew_at (record a { bytes = b; index = i; line = n; number = suc (suc (suc a.number)) }) k now)
+          es f
 
-      places_same : GivesThere (b + bytes_of line_and_document) (i + length line_and_document) (n + 3)
-          → GivesThere (b + bytes_of (declaring d) + 1 + 1 + 1 + 1 + 1 + 1 + 1 + 1 + 1)
-          (i + length (declaring d) + 1 + 1 + 1 + 1 + 1 + 1 + 1 + 1 + 1) (n + 1 + 1 + 1)
+      places_same : GivesThere (a.bytes + bytes_of line_and_document) (a.index + length line_and_document) (a.line + 3)
+          → GivesThere (a.bytes + bytes_of (declaring d) + 1 + 1 + 1 + 1 + 1 + 1 + 1 + 1 + 1)
+          (a.index + length (declaring d) + 1 + 1 + 1 + 1 + 1 + 1 + 1 + 1 + 1) (a.line + 1 + 1 + 1)
       places_same gives =
-          let bytes = b + bytes_of (declaring d) + 1 + 1 + 1 + 1 + 1 + 1 + 1 + 1 + 1 in
-          let long = i + length (declaring d) + 1 + 1 + 1 + 1 + 1 + 1 + 1 + 1 + 1 in
-          subst (λ (n : ℕ). GivesThere bytes long n) (three_lines n)
-          (subst (λ (i : ℕ). GivesThere bytes i (n + 3)) (sym line_length)
-          (subst (λ (b : ℕ). GivesThere b (i + length line_and_document) (n + 3)) (sym line_bytes) gives))
+          let bytes = a.bytes + bytes_of (declaring d) + 1 + 1 + 1 + 1 + 1 + 1 + 1 + 1 + 1 in
+          let long = a.index + length (declaring d) + 1 + 1 + 1 + 1 + 1 + 1 + 1 + 1 + 1 in
+          subst (λ (n : ℕ). GivesThere bytes long n) (three_lines a.line)
+          (subst (λ (i : ℕ). GivesThere bytes i (a.line + 3)) (sym line_length)
+          (subst (λ (b : ℕ). GivesThere b (a.index + length line_and_document) (a.line + 3)) (sym line_bytes) gives))
 
-      declaring_gives : GivesThere (b + bytes_of line_and_document) (i + length line_and_document) (n + 3)
-          → EmptyBefore (anew_at (declaring d ++ 0x0A ∷ marked (0x0A ∷ dotted text)) b i n number m kept) es f
+      -- behind the line that declares the handle
+      abbrev handle_skipped : TextAt
+      handle_skipped = record a {
+        bytes = a.bytes + bytes_of (declaring d) + 1;
+        index = a.index + length (declaring d) + 1;
+        line = a.line + 1;
+        number = suc a.number;
+      }
+
+      declaring_gives : GivesThere (a.bytes + bytes_of line_and_document) (a.index + length line_and_document)
+          (a.line + 3)
+          → EmptyBefore
+          (anew_at (record a { text = declaring d ++ 0x0A ∷ marked (0x0A ∷ dotted a.text) }) m kept) es f
       declaring_gives gives =
-          let behind = marked (0x0A ∷ dotted text) in
-          let here = declaring_start d behind b i n in
-          let after = past_declaring d behind b i n in
-          let x = declaring_lexeme d behind b i n number in
-          let l = laid_at (suc number) true in
-          let told = marked_gives word prefix text (b + bytes_of (declaring d) + 1) (i + length (declaring d) + 1)
-          (n + 1) (suc number) m k now es f (places_same gives) in
+          let behind = marked (0x0A ∷ dotted a.text) in
+          let here = declaring_start d behind a.bytes a.index a.line in
+          let after = past_declaring d behind a.bytes a.index a.line in
+          let x = declaring_lexeme d behind a.bytes a.index a.line a.number in
+          let l = laid_at (suc a.number) true in
+          let told = marked_gives word prefix handle_skipped m k now es f (places_same gives) in
           let all = event_at (DocumentStart true None) told.start ∷ null_at told.node
           ∷ event_at DocumentEnd told.end ∷ es in
           let fed = subst (λ (kept : List (List ℕ × List ℕ)). GivesEvents o
           (quiet_at after l (behind_declaring word prefix m kept)) all f) (sym (kept_here word prefix kept))
           told.gives in
           let waits = turn_leads (one_waits after l x (keeping_at m kept)) _ [] all f
-          (line_fed after (suc number) x word prefix m kept) fed in
+          (line_fed after (suc a.number) x word prefix m kept) fed in
           record {
             start = told.start;
             end = told.end;
             node = told.node;
-            gives = turn_leads _ _ [] all f (lexeme_turn here after (laid_at number true) l x (keeping_at m kept) refl
-                (declaring_reads d behind b i n number)) waits;
+            gives = turn_leads _ _ [] all f (lexeme_turn here after (laid_at a.number true) l x (keeping_at m kept) refl
+                (declaring_reads d behind a.bytes a.index a.line a.number)) waits;
           }
 
+    -- behind a line and an empty document
+    abbrev pub line_skipped : List ℕ → TextAt → TextAt
+    line_skipped line a = record a {
+      bytes = a.bytes + bytes_of (line ++ empty_document);
+      index = a.index + length (line ++ empty_document);
+      line = a.line + 3;
+      number = suc (suc (suc a.number));
+    }
+
     -- a line that declares a handle, an empty document, and a text
-    pub line_gives : {line word prefix : List ℕ} (d : DeclaresHandle o line word prefix) (text : List ℕ)
-        (b i n number : ℕ) (m k : Mark) (kept : List (List ℕ × List ℕ)) (es : List PlainEvent) (f : Option Fault)
-        → GivesEvents o (anew_at text (b + bytes_of (line ++ empty_document)) (i + length (line ++ empty_document))
-        (n + 3) (suc (suc (suc number))) k (remembered word prefix kept)) es f
-        → EmptyBefore (anew_at (line ++ (empty_document ++ text)) b i n number m kept) es f
-    line_gives {word = word} {prefix = prefix} d text b i n number m k kept es f =
-        subst (λ (line : List ℕ). GivesEvents o (anew_at text (b + bytes_of (line ++ empty_document))
-        (i + length (line ++ empty_document)) (n + 3) (suc (suc (suc number))) k (remembered word prefix kept)) es f
-        → EmptyBefore (anew_at (line ++ (empty_document ++ text)) b i n number m kept) es f) (sym d.is)
-        (declaring_gives d text b i n number m k kept es f)
+    pub line_gives : {line word prefix : List ℕ} (d : DeclaresHandle o line word prefix) (a : TextAt) (m k : Mark)
+        (kept : List (List ℕ × List ℕ)) (es : List PlainEvent) (f : Option Fault)
+        → GivesEvents o (anew_at (line_skipped line a) k (remembered word prefix kept)) es f
+        → EmptyBefore (anew_at (record a { text = line ++ (empty_document ++ a.text) }) m kept) es f
+    line_gives {word = word} {prefix = prefix} d a m k kept es f =
+        subst (λ (line : List ℕ). GivesEvents o (anew_at (line_skipped line a) k (remembered word prefix kept)) es f
+        → EmptyBefore (anew_at (record a { text = line ++ (empty_document ++ a.text) }) m kept) es f) (sym d.is)
+        (declaring_gives d a m k kept es f)

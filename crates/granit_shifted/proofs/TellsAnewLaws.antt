@@ -1,6 +1,6 @@
 -- A text behind others that declare handles anew is told as it is told where these handles stay from before.
-use Rattle.std.proofs.Common.{◌≡◌, ℕ, suc, ◌+◌, true, List, [], ◌∷◌, ◌++◌, length, Option, None, inl}
-use Rattle.std.proofs.Common.{refl, sym, ap, ap₂, ◌∙◌, subst, arith, append_assoc, length-append}
+use Rattle.std.proofs.Common.{◌≡◌, ℕ, suc, ◌+◌, true, List, [], ◌∷◌, ◌++◌, length, Option, None, inl, refl, sym, ap}
+use Rattle.std.proofs.Common.{ap₂, ◌∙◌, subst, arith, append_assoc, length-append}
 use Rattle.granit_base.specs.Place.{Mark}
 use Rattle.granit_error.specs.OptionsData.{OptionsData}
 use Rattle.granit_lexemes.specs.DirectiveExtent.{bytes_of}
@@ -16,11 +16,10 @@ use Rattle.granit_steps.proofs.StepLaws.{only_told}
 use Rattle.granit_steps.specs.Steps.{StepState, steps_start}
 use Rattle.granit_steps.specs.Told.{EventsTold, GivesEvents, gives_event}
 use Rattle.granit_shifted.proofs.AloneStates.{sum_none}
-use Rattle.granit_shifted.proofs.EmptyDocumentSteps.{EmptyBefore, anew_at, end_gives, line_gives}
+use Rattle.granit_shifted.proofs.EmptyDocumentSteps.{EmptyBefore, TextAt, anew_at, line_skipped, end_gives, line_gives}
 use Rattle.granit_shifted.proofs.MovedEvents.{gives_moved}
-use Rattle.granit_shifted.specs.Declaring.{DeclaresAnew, DeclaresHandle, EmptyDocuments, TellsAnew}
-use Rattle.granit_shifted.specs.Declaring.{empty_document, kept_start, no_document, none_declared, one_document}
-use Rattle.granit_shifted.specs.Declaring.{one_more}
+use Rattle.granit_shifted.specs.Declaring.{DeclaresAnew, DeclaresHandle, EmptyDocuments, TellsAnew, empty_document}
+use Rattle.granit_shifted.specs.Declaring.{kept_start, no_document, none_declared, one_document, one_more}
 use Rattle.granit_shifted.specs.Moved.{moved_steps}
 use Rattle.granit_shifted.specs.Shift.{Shift, moved_events, moved_fault_of}
 
@@ -42,42 +41,44 @@ abbrev pub told_before : {o : OptionsData} {text : List ℕ} {kept : List (List 
 told_before none_declared = 0
 told_before (one_more before d) = suc (suc (suc (told_before before)))
 
+-- a text behind what declares them, with that many documents
+abbrev pub text_from : List ℕ → List ℕ → ℕ → TextAt
+text_from before text count =
+    record { text = text; bytes = bytes_of before; index = length before; line = count + 1; number = count }
+
 -- a text behind them gives these events, and then its own
 pub record DocumentsBefore (o : OptionsData) (whole : List ℕ) (count : ℕ) (es : List PlainEvent)
     (f : Option Fault) : Type 0 where
   pub documents : List PlainEvent
   pub empty : EmptyDocuments documents
   pub many : length documents ≡ count
-  pub gives : GivesEvents o (anew_at whole 0 0 1 0 (mark_of (start_of whole)) []) (documents ++ es) f
+  pub gives : GivesEvents o (anew_at (text_from [] whole 0) (mark_of (start_of whole)) []) (documents ++ es) f
 
 module _ (o : OptionsData) (keeps : o.keep_tags ≡ true) where
   abbrev GivesTextBehind : List ℕ → (text : List ℕ) → (count : ℕ) → List (List ℕ × List ℕ) → List PlainEvent
       → Option Fault → Type 0
   GivesTextBehind before text count kept es f =
-      (m : Mark) × GivesEvents o (anew_at text (bytes_of before) (length before) (count + 1) count m kept) es f
+      (m : Mark) × GivesEvents o (anew_at (text_from before text count) m kept) es f
 
   count_on : (n : ℕ) → suc (suc (suc n)) + 1 ≡ n + 1 + 3
   count_on n = omega arith
 
   -- one more line and its document
-  last_gives : (before line word prefix text : List ℕ) (kept : List (List ℕ × List ℕ)) (n : ℕ)
+  last_gives : {line word prefix : List ℕ} (before text : List ℕ) (kept : List (List ℕ × List ℕ)) (n : ℕ)
       → DeclaresHandle o line word prefix → (es : List PlainEvent) (f : Option Fault)
       → GivesTextBehind (before ++ (line ++ empty_document)) text (suc (suc (suc n))) (remembered word prefix kept) es f
       → (m : Mark)
-      → EmptyBefore o (anew_at (line ++ (empty_document ++ text)) (bytes_of before) (length before) (n + 1) n m kept) es
-      f
-  last_gives before line word prefix text kept n d es f gives m =
+      → EmptyBefore o (anew_at (text_from before (line ++ (empty_document ++ text)) n) m kept) es f
+  last_gives {line = line} {word = word} {prefix = prefix} before text kept n d es f gives m =
       let now = remembered word prefix kept in
-      let number = suc (suc (suc n)) in
-      let bytes = bytes-append before (line ++ empty_document) in
-      let long = length-append before (line ++ empty_document) in
-      line_gives o keeps d text (bytes_of before) (length before) (n + 1) n m gives.0 kept es f
-      (subst (λ (below : ℕ). GivesEvents o (anew_at text (bytes_of before + bytes_of (line ++ empty_document))
-      (length before + length (line ++ empty_document)) below number gives.0 now) es f) (count_on n)
-      (subst (λ (i : ℕ). GivesEvents o (anew_at text (bytes_of before + bytes_of (line ++ empty_document)) i
-      (number + 1) number gives.0 now) es f) long
-      (subst (λ (b : ℕ). GivesEvents o (anew_at text b (length (before ++ (line ++ empty_document))) (number + 1) number
-      gives.0 now) es f) bytes gives.1)))
+      let here = text_from before text n in
+      let there = text_from (before ++ (line ++ empty_document)) text (suc (suc (suc n))) in
+      let at = λ (a : TextAt). GivesEvents o (anew_at a gives.0 now) es f in
+      line_gives o keeps d here m gives.0 kept es f
+      (subst (λ (below : ℕ). at (record (line_skipped o keeps line here) { line = below })) (count_on n)
+      (subst (λ (i : ℕ). at (record (line_skipped o keeps line here) { index = i; line = there.line }))
+      (length-append before (line ++ empty_document))
+      (subst (λ (b : ℕ). at (record there { bytes = b })) (bytes-append before (line ++ empty_document)) gives.1)))
 
   pub documents_give : {before : List ℕ} {kept : List (List ℕ × List ℕ)} (d : DeclaresAnew o before kept)
       (text : List ℕ) (es : List PlainEvent) (f : Option Fault) → GivesTextBehind before text (told_before d) kept es f
@@ -86,21 +87,23 @@ module _ (o : OptionsData) (keeps : o.keep_tags ≡ true) where
     documents = [];
     empty = no_document;
     many = refl;
-    gives = end_gives o text 0 0 1 0 gives.0 (mark_of (start_of text)) [] es f gives.1;
+    gives = end_gives o (text_from [] text 0) gives.0 (mark_of (start_of text)) [] es f gives.1;
   }
   documents_give (one_more {text = before} {line = line} {handle = word} {prefix = prefix} {kept = kept} d h) text es f
       gives =
       let m = mark_of (start_of text) in
-      let last = last_gives before line word prefix text kept (told_before d) h es f gives m in
+      let last = last_gives before text kept (told_before d) h es f gives m in
       let own = triple last.start last.end last.node [] in
       let first = documents_give d (line ++ (empty_document ++ text)) (own ++ es) f (m, last.gives) in
       record {
         documents = first.documents ++ own;
         empty = with_last_document first.documents last.start last.end last.node first.empty;
         many = length-append first.documents own ∙ more_events (length first.documents) (told_before d) first.many;
-        gives = subst (λ (es : List PlainEvent). GivesEvents o (anew_at ((before ++ (line ++ empty_document)) ++ text)
-            0 0 1 0 m []) es f) (sym (append_assoc first.documents own es))
-            (subst (λ (whole : List ℕ). GivesEvents o (anew_at whole 0 0 1 0 m []) (first.documents ++ (own ++ es)) f)
+        gives = subst (λ (es : List PlainEvent). GivesEvents o
+            (anew_at (text_from [] ((before ++ (line ++ empty_document)) ++ text) 0) m []) es f)
+            (sym (append_assoc first.documents own es))
+            (subst (λ (whole : List ℕ). GivesEvents o (anew_at (text_from [] whole 0) m [])
+            (first.documents ++ (own ++ es)) f)
             (sym (append_assoc before (line ++ empty_document) text
             ∙ ap (λ (l : List ℕ). before ++ l) (append_assoc line empty_document text))) first.gives);
       }
@@ -124,13 +127,14 @@ module _ (o : OptionsData) (keeps : o.keep_tags ≡ true) where
 
   start_moved_on : (before text : List ℕ) (count : ℕ) (kept : List (List ℕ × List ℕ))
       → moved_steps (shift_behind before count) (kept_start text kept)
-      ≡ anew_at text (bytes_of before) (length before) (count + 1) count
+      ≡ anew_at (text_from before text count)
       (moved_steps (shift_behind before count) (kept_start text kept)).parser.last_end kept
   start_moved_on before text count kept =
       let m = (moved_steps (shift_behind before count) (kept_start text kept)).parser.last_end in
-      ap₂ (λ (b i : ℕ). anew_at text b i (count + 1) (count + 0) m kept) (sum_none (bytes_of before))
-      (sum_none (length before))
-      ∙ ap (λ (number : ℕ). anew_at text (bytes_of before) (length before) (count + 1) number m kept) (sum_none count)
+      let at = λ (b i number : ℕ). let a : TextAt =
+      record { text = text; bytes = b; index = i; line = count + 1; number = number } in a in
+      ap₂ (λ (b i : ℕ). anew_at (at b i (count + 0)) m kept) (sum_none (bytes_of before)) (sum_none (length before))
+      ∙ ap (λ (number : ℕ). anew_at (at (bytes_of before) (length before) number) m kept) (sum_none count)
 
   moved_gives : {before : List ℕ} {kept : List (List ℕ × List ℕ)} (d : DeclaresAnew o before kept) (text : List ℕ)
       (es : List PlainEvent) (f : Option Fault) → GivesEvents o (kept_start text kept) es f
@@ -151,7 +155,7 @@ module _ (o : OptionsData) (keeps : o.keep_tags ≡ true) where
   stream_event whole = event_on StreamStart (mark_of (start_of whole))
 
   streamed : (whole : List ℕ) (es : List PlainEvent) (f : Option Fault)
-      → GivesEvents o (anew_at whole 0 0 1 0 (mark_of (start_of whole)) []) es f
+      → GivesEvents o (anew_at (text_from [] whole 0) (mark_of (start_of whole)) []) es f
       → GivesEvents o (steps_start whole) (stream_event whole ∷ es) f
   streamed whole es f gives = gives_event (waits_next o (steps_start whole) (stream_event whole) []) gives
 

@@ -25,15 +25,12 @@ use Rattle.granit_restart.proofs.AheadLaws.{turn_next, waits_next}
 use Rattle.granit_restart.specs.Restart.{dropped}
 use Rattle.granit_steps.specs.Steps.{StepState, incoming, next_event, pushed, step_turn, with_read}
 use Rattle.granit_steps.specs.Told.{gives_end, gives_event}
-use Rattle.granit_shifted.proofs.LineGaps.{Seen, here_at, laid_at}
+use Rattle.granit_shifted.proofs.LineGaps.{laid_at}
 use Rattle.granit_shifted.proofs.OuterSteps.{reading_at}
 use Rattle.granit_shifted.specs.Alone.{TellsEnd}
 
 abbrev end_lexeme : ℕ → Bool → Here → Lexeme
 end_lexeme number may h = lexeme_to false StreamEnd (mark_of h) h (laid_at number may)
-
-abbrev seen : ℕ → Bool → Option Mark → Seen
-seen c begins t = record { column = c; begins_line = begins; tab = t }
 
 read_by : (o : OptionsData) (number : ℕ) (may : Bool) (h : Here) (r : Read)
     → h.unread.text ≡ [] → lexeme_by o TextEnd h (laid_at number may) >>= (λ y. read_whole o y.0 y.1) ≡ r
@@ -44,22 +41,27 @@ read_by o number may h r e same =
     at_end))
     ∙ same
 
-end_read : (o : OptionsData) (number : ℕ) (may : Bool) (offset : Option ℕ) (lends : Bool) (i n c : ℕ) (begins : Bool)
-    (t : Option Mark)
-    → read o (record { here = here_at [] offset lends i n (seen c begins t); laid = laid_at number may })
-    ≡ Ok (
-      OfLexeme (end_lexeme number may (here_at [] offset lends i n (seen c begins t))) ∷ [],
-      record { here = here_at [] offset lends i n (seen c begins t); laid = behind_end (laid_at number may) },
-    )
+-- the end is read
+abbrev pub ReadsEnd : OptionsData → ℕ → Bool → Here → Type 0
+ReadsEnd o number may h =
+    read o (record { here = h; laid = laid_at number may })
+    ≡ Ok (OfLexeme (end_lexeme number may h) ∷ [], record { here = h; laid = behind_end (laid_at number may) })
+
+-- a place with nothing left, where a line begins or not
+abbrev bare_at : Bool → Here → Here
+bare_at begins h = record h { unread = record (h.unread) { text = [] }; begins_line = begins }
+
+end_read : (o : OptionsData) (number : ℕ) (may begins : Bool) (h : Here) → ReadsEnd o number may (bare_at begins h)
 unfolding read past_gap gap_ends ready_gap lexeme_by is_gap is_blank is_break is_bom is_breakz is_z
-end_read o number true offset lends i n c true t =
-    read_by o number true (here_at [] offset lends i n (seen c true t)) _ refl refl
-end_read o number true offset lends i n c false t =
-    read_by o number true (here_at [] offset lends i n (seen c false t)) _ refl refl
-end_read o number false offset lends i n c true t =
-    read_by o number false (here_at [] offset lends i n (seen c true t)) _ refl refl
-end_read o number false offset lends i n c false t =
-    read_by o number false (here_at [] offset lends i n (seen c false t)) _ refl refl
+end_read o number true true h = read_by o number true (bare_at true h) _ refl refl
+end_read o number true false h = read_by o number true (bare_at false h) _ refl refl
+end_read o number false true h = read_by o number false (bare_at true h) _ refl refl
+end_read o number false false h = read_by o number false (bare_at false h) _ refl refl
+
+pub end_is_read : (o : OptionsData) (number : ℕ) (may : Bool) (h : Here) → h.unread.text ≡ [] → ReadsEnd o number may h
+end_is_read o number may h e =
+    subst (λ (text : List ℕ). ReadsEnd o number may (record h { unread = record (h.unread) { text = text } })) (sym e)
+    (end_read o number may h.begins_line h)
 
 -- ---- the calls
 
@@ -81,21 +83,17 @@ module _ (o : OptionsData) (p : ParserState) where
   abbrev ended_parser : Mark → ParserState
   ended_parser m = record (dropped p) { last_end = m }
 
-  read_turn : (number : ℕ) (may : Bool) (offset : Option ℕ) (lends : Bool) (i n c : ℕ) (begins : Bool) (t : Option Mark)
-      → step_turn o (state_with (laid_at number may) false [] (dropped p) []
-      (here_at [] offset lends i n (seen c begins t)))
+  read_turn : (number : ℕ) (may : Bool) (h : Here) → h.unread.text ≡ []
+      → step_turn o (state_with (laid_at number may) false [] (dropped p) [] h)
       ≡ Ok (
         Some [],
-        state_with (behind_end (laid_at number may)) true
-            (OfLexeme (end_lexeme number may (here_at [] offset lends i n (seen c begins t))) ∷ []) (dropped p) []
-            (here_at [] offset lends i n (seen c begins t)),
+        state_with (behind_end (laid_at number may)) true (OfLexeme (end_lexeme number may h) ∷ []) (dropped p) [] h,
       )
   unfolding step_turn lex_turn
-  read_turn number may offset lends i n c begins t =
-      let h = here_at [] offset lends i n (seen c begins t) in
+  read_turn number may h e =
       let s = state_with (laid_at number may) false [] (dropped p) [] h in
       ap (λ (r : Read). behind_read r s.reading.reader >>= λ x. Ok (Some [], with_read o s x))
-      (end_read o number may offset lends i n c begins t)
+      (end_is_read o number may h e)
       ∙ ap (λ (is : List Item). let x : Result (Option (List PlainEvent) × StepState) Fault =
       Ok (Some [], state_with (behind_end (laid_at number may)) true is (dropped p) [] h) in x)
       (asked o.emit_comments (end_lexeme number may h))
@@ -116,18 +114,6 @@ module _ (o : OptionsData) (p : ParserState) where
   unfolding next_event pieces turns step_turn
   done l q h = refl
 
-  end_tells_at : (number : ℕ) (may : Bool) (offset : Option ℕ) (lends : Bool) (i n c : ℕ) (begins : Bool)
-      (t : Option Mark) → TellsEnd o (here_at [] offset lends i n (seen c begins t))
-      (state_with (laid_at number may) false [] (dropped p) [] (here_at [] offset lends i n (seen c begins t)))
-  end_tells_at number may offset lends i n c begins t =
-      let h = here_at [] offset lends i n (seen c begins t) in
-      let l = behind_end (laid_at number may) in
-      let e = event_on events.StreamEnd (mark_of h) in
-      gives_event (turn_next o _ _ [] (read_turn number may offset lends i n c begins t)
-      ∙ turn_next o _ _ [] (feed_turn number may h)
-      ∙ waits_next o (state_with l true [] (ended_parser (mark_of h)) [] h) e [])
-      (gives_end (done l (ended_parser (mark_of h)) h))
-
   pub end_tells : (number : ℕ) (may : Bool) (h : Here) → h.unread.text ≡ []
       → TellsEnd o h (record {
         reading = reading_at h (laid_at number may) None;
@@ -136,11 +122,9 @@ module _ (o : OptionsData) (p : ParserState) where
         pending = [];
       })
   end_tells number may h e =
-      subst (λ (text : List ℕ). TellsEnd o
-      (here_at text h.unread.offset h.unread.lends h.place.index h.place.line (seen h.place.column h.begins_line h.tab))
-      (state_with (laid_at number may) false [] (dropped p) []
-      (here_at text h.unread.offset h.unread.lends h.place.index h.place.line
-      (seen h.place.column h.begins_line h.tab))))
-      (sym e)
-      (end_tells_at number may h.unread.offset h.unread.lends h.place.index h.place.line h.place.column h.begins_line
-      h.tab)
+      let l = behind_end (laid_at number may) in
+      let told = event_on events.StreamEnd (mark_of h) in
+      gives_event (turn_next o _ _ [] (read_turn number may h e)
+      ∙ turn_next o _ _ [] (feed_turn number may h)
+      ∙ waits_next o (state_with l true [] (ended_parser (mark_of h)) [] h) told [])
+      (gives_end (done l (ended_parser (mark_of h)) h))

@@ -283,9 +283,9 @@ pub keyed_fits : (o : OptionsData) (k : PossibleKey) (m : Mark) (l : Laid) → i
     → is_in_flow l ≡ false → keyed_entry o k m l ≡ with_pair o k.start.place.column k.start l
 keyed_fits o k m l near flow = rw (near, flow) refl
 
-pub colon_same : (o : OptionsData) (key : Option PossibleKey) (x y : Lexeme) (m n : Mark) (a b : Bool) (after : Here)
+pub colon_same : (o : OptionsData) (key : Option PossibleKey) {x y : Lexeme} {m n : Mark} {a b : Bool} (after : Here)
     (l : Laid) → x ≡ y → m ≡ n → a ≡ b → colon_by o key x m a after l ≡ colon_by o key y n b after l
-colon_same o key x y m n a b after l p q r =
+colon_same o key {x} {y} {m} {n} {a} {b} after l p q r =
     ap (λ (z : Lexeme). colon_by o key z m a after l) p
     ∙ ap (λ (z : Mark). colon_by o key y z a after l) q
     ∙ ap (λ (z : Bool). colon_by o key y n z after l) r

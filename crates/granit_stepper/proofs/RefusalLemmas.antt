@@ -130,6 +130,9 @@ same_dropped : (p : ParserState) (end : Mark) (count : ℕ) (kept : List (List �
     → count ≡ p.count → kept ≡ p.kept → dropped p ≡ record (parser_start end) { count = count; kept = kept }
 same_dropped p end count kept ends counts keeps = rw (ends, counts, keeps) refl
 
+same_refusal : (x y : Refusal) → Some x ≡ Some y → x ≡ y
+same_refusal x y e = cc
+
 module _ {I : Type 0} (unread : I → Unread → Type 0) (s : Stepping I) (m : StepState) (e : Refused)
     (refused : StandsRefused unread s m e) where
   -- where the cursor stands
@@ -198,29 +201,24 @@ module _ {I : Type 0} (unread : I → Unread → Type 0) (s : Stepping I) (m : S
         subst (λ (y : Bool × StepState). StandsIn unread new y.1) (sym is) stands,
       )
 
-same_refusal : (x y : Refusal) → Some x ≡ Some y → x ≡ y
-same_refusal x y e = cc
-
--- by what the scanner does
-pub restarts_behind : {I : Type 0} (unread : I → Unread → Type 0) (s : Stepping I) (m : StepState) (e : Refused)
-    (refused : StandsRefused unread s m e) (r : Refusal) → s.refusal ≡ Some r → (o : OptionsData) → Turned o m
-    → s.scanner.cursor.lost ≡ false → (new : Stepping I) (starts : Bool)
-    → ((n : StepState) (h : Here) → Stands unread s.scanner.cursor h
-    → s.scanner.laid.number ≡ n.reading.reader.laid.number
-    → read_boundary h n.queue ≡ read_boundary h (front_items r.front ++ s.scanner.queue)
-    → Restarts unread (behind_fault_at h n) new.scanner starts)
-    → new.parser ≡ record (parser_start r.last_end) { count = r.count; kept = s.parser.kept } → new.first ≡ None
-    → new.failed ≡ false → new.ahead ≡ None → RestartsIn unread s.scanner.cursor starts new m
-restarts_behind unread s m e refused r is o turned found new starts goes parser first going none_ahead =
-    let at = stops unread s m e refused found in
-    let same : refused.refusal ≡ r = same_refusal refused.refusal r (sym refused.is_kept ∙ is) in
-    let reads = reads_alike unread s m e refused at.stop (what_goes_holds o at.stop m turned)
-    ∙ ap (λ (x : Refusal). read_boundary at.stop (front_items x.front ++ s.scanner.queue)) same in
-    restarts unread s m e refused at new starts
-    (goes m at.stop at.stands (counted unread s m e refused) reads)
-    (parser ∙ ap (λ (x : Refusal). record (parser_start x.last_end) { count = x.count; kept = s.parser.kept })
-    (sym same))
-    first going none_ahead
+  -- by what the scanner does
+  pub restarts_behind : (r : Refusal) → s.refusal ≡ Some r → (o : OptionsData) → Turned o m
+      → s.scanner.cursor.lost ≡ false → (new : Stepping I) (starts : Bool)
+      → ((n : StepState) (h : Here) → Stands unread s.scanner.cursor h
+      → s.scanner.laid.number ≡ n.reading.reader.laid.number
+      → read_boundary h n.queue ≡ read_boundary h (front_items r.front ++ s.scanner.queue)
+      → Restarts unread (behind_fault_at h n) new.scanner starts)
+      → new.parser ≡ record (parser_start r.last_end) { count = r.count; kept = s.parser.kept } → new.first ≡ None
+      → new.failed ≡ false → new.ahead ≡ None → RestartsIn unread s.scanner.cursor starts new m
+  restarts_behind r is o turned found new starts goes parser first going none_ahead =
+      let at = stops found in
+      let same : refused.refusal ≡ r = same_refusal refused.refusal r (sym refused.is_kept ∙ is) in
+      let reads = reads_alike at.stop (what_goes_holds o at.stop m turned)
+      ∙ ap (λ (x : Refusal). read_boundary at.stop (front_items x.front ++ s.scanner.queue)) same in
+      restarts at new starts (goes m at.stop at.stands counted reads)
+      (parser ∙ ap (λ (x : Refusal). record (parser_start x.last_end) { count = x.count; kept = s.parser.kept })
+      (sym same))
+      first going none_ahead
 
 -- ---- where a turn is refused
 

@@ -246,42 +246,53 @@ anchor_is a o (Some q) p fs st ls x = told_if o.emit_anchor_events
     }
     told_if false = x
 
-pub node_event_is : (a : List Level) (o : OptionsData) (kind : ℕ → Option PlainTag → EventKind) (source : Source)
-    (indent : Option ℕ) (p : ParserState) (fs : List Frame) (st : DocumentStage) (ls ms : List Level)
-    → ((n : ℕ) (t : Option PlainTag) → behind_event (kind n t) ls ≡ Some ms) → Is a p fs st ls
-    → Is a (node_event o kind source indent p) (below_properties fs) st ms
+-- the event that begins a node, or is all of it, but for what its properties make of it
+record NodeTold : Type 0 where
+  kind : ℕ → Option PlainTag → EventKind
+  source : Source
+  indent : Option ℕ
+
+-- such an event leads from some levels to others, whatever its node's number and tag
+abbrev LeadsTo : NodeTold → List Level → List Level → Type 0
+LeadsTo e ls ms = (n : ℕ) (t : Option PlainTag) → behind_event (e.kind n t) ls ≡ Some ms
+
+-- it does to all levels what this does
+abbrev pub ActsAs : (ℕ → Option PlainTag → EventKind) → (List Level → Option (List Level)) → Type 0
+ActsAs kind f = (n : ℕ) (t : Option PlainTag) (ls : List Level) → behind_event (kind n t) ls ≡ f ls
+
+node_event_is : (a : List Level) (o : OptionsData) (e : NodeTold) (p : ParserState) (fs : List Frame)
+    (st : DocumentStage) (ls ms : List Level) → LeadsTo e ls ms → Is a p fs st ls
+    → Is a (node_event o e.kind e.source e.indent p) (below_properties fs) st ms
 unfolding node_event
-node_event_is a o kind source indent p fs st ls ms h x =
-    let q = properties_on p.frames source.end in
+node_event_is a o e p fs st ls ms h x =
+    let q = properties_on p.frames e.source.end in
     let r : ParserState = record p { frames = below_properties p.frames } in
     anchor_is a o q.anchor _ (below_properties fs) st ms
     (give_is a (record {
-      kind = kind (anchor_number q.anchor) (tag_value q.tag);
-      span = span_with_tag q.tag source
-          (key_indent r.frames indent);
+      kind = e.kind (anchor_number q.anchor) (tag_value q.tag);
+      span = span_with_tag q.tag e.source
+          (key_indent r.frames e.indent);
     }) r (below_properties fs) st ls ms (h (anchor_number q.anchor) (tag_value q.tag))
     (record { left = x.left; frames = ap below_properties x.frames; stage = x.stage; held = x.held }))
 
 -- a node of one event
 pub leaf_agrees : (a : List Level) (o : OptionsData) (kind : ℕ → Option PlainTag → EventKind) (source : Source)
-    (indent : Option ℕ) (p : ParserState) (fs : List Frame) (st : DocumentStage)
-    → ((n : ℕ) (t : Option PlainTag) (ls : List Level) → behind_event (kind n t) ls ≡ node_done ls) → Open a p fs st
-    → Agrees a (finish (node_event o kind source indent p))
+    (indent : Option ℕ) (p : ParserState) (fs : List Frame) (st : DocumentStage) → ActsAs kind node_done
+    → Open a p fs st → Agrees a (finish (node_event o kind source indent p))
 leaf_agrees a o kind source indent p fs st h x =
     let gs = below_properties fs in
     finish_agrees a (node_event o kind source indent p) gs st x.clean
-    (node_event_is a o kind source indent p fs st (levels_of gs st) (done_levels gs st)
-    (λ n t. h n t (levels_of gs st) ∙ clean_done gs st x.clean) x.is)
+    (node_event_is a o (record { kind = kind; source = source; indent = indent }) p fs st (levels_of gs st)
+    (done_levels gs st) (λ n t. h n t (levels_of gs st) ∙ clean_done gs st x.clean) x.is)
 
 -- a collection begins
 pub begin_is : (a : List Level) (o : OptionsData) (kind : ℕ → Option PlainTag → EventKind) (source : Source) (l : Level)
-    (f : Frame) (p : ParserState) (fs : List Frame) (st : DocumentStage)
-    → ((n : ℕ) (t : Option PlainTag) (ls : List Level) → behind_event (kind n t) ls ≡ node_begun l ls) → Open a p fs st
+    (f : Frame) (p : ParserState) (fs : List Frame) (st : DocumentStage) → ActsAs kind (node_begun l) → Open a p fs st
     → Is a (begin o kind source f p) (f ∷ below_properties fs) st (l ∷ levels_of (below_properties fs) st)
 begin_is a o kind source l f p fs st h x =
     let gs = below_properties fs in
-    let q = node_event_is a o kind source None p fs st (levels_of gs st) (l ∷ levels_of gs st)
-    (λ n t. h n t (levels_of gs st) ∙ clean_begun l gs st x.clean) x.is in
+    let q = node_event_is a o (record { kind = kind; source = source; indent = None }) p fs st (levels_of gs st)
+    (l ∷ levels_of gs st) (λ n t. h n t (levels_of gs st) ∙ clean_begun l gs st x.clean) x.is in
     record { left = q.left; frames = ap (λ gs. f ∷ gs) q.frames; stage = q.stage; held = q.held }
 
 pub waits_is : (a : List Level) (m : Mark) (room : ℕ) (p : ParserState) (fs : List Frame) (st : DocumentStage)

@@ -35,7 +35,7 @@ use Rattle.granit_lexemes.specs.Comment.{CommentRead}
 use Rattle.granit_lexemes.specs.Lexeme as lexemes
 use Rattle.granit_steps.proofs.Nesting.{levels_of, Clean, Fine, more_left, clean_begun, Is, Agrees, agrees, flush_is}
 use Rattle.granit_steps.proofs.Nesting.{give_is, give_empty_is, Open, leaf_agrees, begin_is, waits_is, top_is, null_is}
-use Rattle.granit_steps.proofs.Nesting.{owed_is, end_node_agrees}
+use Rattle.granit_steps.proofs.Nesting.{owed_is, end_node_agrees, ActsAs}
 
 -- ---- steps that may fail
 
@@ -113,8 +113,7 @@ give_tail_is a (Some c) p fs st ls x =
     }
 
 begin_block_is : (a : List Level) (o : OptionsData) (kind : ℕ → Option PlainTag → EventKind) (m : Mark) (l : Level)
-    (f : Frame) (p : ParserState) (fs : List Frame) (st : DocumentStage)
-    → ((n : ℕ) (t : Option PlainTag) (ls : List Level) → behind_event (kind n t) ls ≡ node_begun l ls) → Open a p fs st
+    (f : Frame) (p : ParserState) (fs : List Frame) (st : DocumentStage) → ActsAs kind (node_begun l) → Open a p fs st
     → IsIn a (f ∷ below_properties fs) st (l ∷ levels_of (below_properties fs) st) (begin_block o kind m f p)
 unfolding begin_block
 begin_block_is a o kind m l f p fs st h x = let e = begin_is a o kind (empty_span m) l f p fs st h x in search
@@ -282,19 +281,20 @@ with_null : (a : List Level) (m : Mark) (p : ParserState) (fs : List Frame) (st 
     → Is a p fs st (InMapping ∷ ls) → Is a (give (null_at m) p) fs st (InMapping ∷ ls)
 with_null a m p fs st ls x = null_is a m p fs st (InMapping ∷ ls) (InMapping ∷ ls) refl x
 
-bare_colon_agrees : (a : List Level) (o : OptionsData) (t : Token) (column n : ℕ) (stage old : PairStage)
-    (p : ParserState) (fs : List Frame) (st : DocumentStage)
-    → Is a p (BlockMapping n old ∷ fs) st (InMapping ∷ levels_of fs st) → Clean fs
-    → Agrees a (bare_colon_in_mapping o t column stage p)
-bare_colon_agrees a o t column n AtQuestion old p fs st x c = mapping_colon_agrees a o t column (BlockMapping n old) _
-    fs st (give_is a (with_indent (Some column) (null_at t.lexeme.start)) p (BlockMapping n old ∷ fs) st
+bare_colon_agrees : (a : List Level) (o : OptionsData) (t : Token) (column : ℕ) (stage : PairStage) (p : ParserState)
+    (fs : List Frame) (st : DocumentStage) → Is a p (BlockMapping column stage ∷ fs) st (InMapping ∷ levels_of fs st)
+    → Clean fs → Agrees a (bare_colon_in_mapping o t column stage p)
+bare_colon_agrees a o t column AtQuestion p fs st x c =
+    mapping_colon_agrees a o t column (BlockMapping column AtQuestion) _ fs st
+    (give_is a (with_indent (Some column) (null_at t.lexeme.start)) p (BlockMapping column AtQuestion ∷ fs) st
     (InMapping ∷ levels_of fs st) (InMapping ∷ levels_of fs st) refl x) c
-bare_colon_agrees a o t column n BehindQuestion old p fs st x c = mapping_colon_agrees a o t column (BlockMapping n old)
-    p fs st x c
-bare_colon_agrees a o t column n stage old p fs st x c =
-    mapping_colon_agrees a o t column (BlockMapping n old) (give (null_at t.lexeme.start) (owed t.lexeme.start p)) fs st
-    (with_null a t.lexeme.start (owed t.lexeme.start p) (BlockMapping n old ∷ fs) st (levels_of fs st)
-    (owed_is a t.lexeme.start p (BlockMapping n old ∷ fs) st x)) c
+bare_colon_agrees a o t column BehindQuestion p fs st x c =
+    mapping_colon_agrees a o t column (BlockMapping column BehindQuestion) p fs st x c
+bare_colon_agrees a o t column stage p fs st x c =
+    let f = BlockMapping column stage in
+    mapping_colon_agrees a o t column f (give (null_at t.lexeme.start) (owed t.lexeme.start p)) fs st
+    (with_null a t.lexeme.start (owed t.lexeme.start p) (f ∷ fs) st (levels_of fs st)
+    (owed_is a t.lexeme.start p (f ∷ fs) st x)) c
 
 next_pair_agreed : (a : List Level) (o : OptionsData) (t : Token) (column : ℕ) (stage : PairStage) (sort : TokenSort)
     (p : ParserState) (fs : List Frame) (st : DocumentStage)
@@ -311,7 +311,7 @@ next_pair_agreed a o t column stage QuestionToken p fs st x c =
     agrees a (mapping_at column AtQuestion (owed t.lexeme.start p)) (BlockMapping column AtQuestion ∷ fs) st
     (mapping_at_is a column AtQuestion (BlockMapping column stage) (owed t.lexeme.start p) fs st
     (InMapping ∷ levels_of fs st) (owed_is a t.lexeme.start p (BlockMapping column stage ∷ fs) st x)) c
-next_pair_agreed a o t column stage sort p fs st x c = bare_colon_agrees a o t column column stage stage p fs st x c
+next_pair_agreed a o t column stage sort p fs st x c = bare_colon_agrees a o t column stage p fs st x c
 
 behind_indicator_agreed : (a : List Level) (o : OptionsData) (t : Token) (column : ℕ) (stage : PairStage)
     (p : ParserState) (fs : List Frame) (st : DocumentStage)

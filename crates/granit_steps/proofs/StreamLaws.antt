@@ -273,26 +273,26 @@ over_told o end (i ∷ is) p c x = over_item o end is (feed o i (next_line is) p
     over_item o end is (Ok x) f more = more_left [] x.0 (fed o end is x.1).0 [] [] f.0 (more x.1 f.1)
     over_item o end is (Err g) f more = refl
 
-fault_ends : (m : Mark) (a : List Level) (f : Fault) (b : Bool) (es : List PlainEvent) → behind_events es a ≡ Some []
+fault_ends : (a : List Level) (f : Fault) (b : Bool) (es : List PlainEvent) → behind_events es a ≡ Some []
     → Ends a ([], Some f) b
-fault_ends m a f b es e = record { levels = a; left = refl; closed = λ h. absurd (cc); more = es; closes = e }
+fault_ends a f b es e = record { levels = a; left = refl; closed = λ h. absurd (cc); more = es; closes = e }
 
-item_ends : (m : Mark) (o : OptionsData) (end : Option Fault) (i : FlaggedItem) (is : List FlaggedItem) (a : List Level)
-    (b : Bool) (r : Result (List PlainEvent × ParserState) Fault) → is_end_item i.item ≡ b
+item_ends : (o : OptionsData) (end : Option Fault) (i : FlaggedItem) (is : List FlaggedItem) (a : List Level) (b : Bool)
+    (r : Result (List PlainEvent × ParserState) Fault) → is_end_item i.item ≡ b
     → (is_end_item i.item ≡ true → OnlyComments (in_items is)) → (es : List PlainEvent) → behind_events es a ≡ Some []
     → Fed b a r → ((q : ParserState) → Rests q
     → Ends (levels_of q.frames q.stage) (fed o end is q) (has_end (in_items is)))
     → Ends a (told_behind r (λ q. fed o end is q)) (is_end_item i.item || has_end (in_items is))
-item_ends m o end i is a true (Err f) e only es c x more = fault_ends m a f _ es c
-item_ends m o end i is a false (Err f) e only es c x more = fault_ends m a f _ es c
-item_ends m o end i is a true (Ok y) e only es c x more = record {
+item_ends o end i is a true (Err f) e only es c x more = fault_ends a f _ es c
+item_ends o end i is a false (Err f) e only es c x more = fault_ends a f _ es c
+item_ends o end i is a true (Ok y) e only es c x more = record {
   levels = [];
   left = more_left a y.0 (fed o end is y.1).0 [] [] x.0 (over_told o end is y.1 (only e) x.1);
   closed = λ h k. refl;
   more = [];
   closes = refl;
 }
-item_ends m o end i is a false (Ok y) e only es c x more =
+item_ends o end i is a false (Ok y) e only es c x more =
     let r = more y.1 x.1 in
     record {
       levels = r.levels;
@@ -314,7 +314,7 @@ fed_ends m o end [] p fit x = let c = fine_closers m p.frames p.stage
     }
 fed_ends m o end (i ∷ is) p fit x =
     let c = fine_closers m p.frames p.stage x.fine in
-    item_ends m o end i is (levels_of p.frames p.stage) (is_end_item i.item) (feed o i (next_line is) p) refl fit.0 c.0
+    item_ends o end i is (levels_of p.frames p.stage) (is_end_item i.item) (feed o i (next_line is) p) refl fit.0 c.0
     c.1 (feed_fed o i (next_line is) p x) (λ q y. fed_ends m o end is q fit.1 y)
 
 parser_rests : (m : Mark) → Rests (parser_start m)

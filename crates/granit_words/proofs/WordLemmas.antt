@@ -1,7 +1,7 @@
 -- What the words of the program say: right words say options, and no others are read as right.
 use Rattle.std.proofs.Common.{◌≡◌, ◌⊎◌, inl, inr, ℕ, zero, suc, ◌+◌, ◌<◌, ◌≤◌, Bool, true, false, ◌==◌, ◌||◌, List, []}
-use Rattle.std.proofs.Common.{◌∷◌, ◌++◌, length, take, drop, get_or, set, codes, Option, Some, None, refl, sym, ap}
-use Rattle.std.proofs.Common.{ap₂, subst, ◌∙◌, arith}
+use Rattle.std.proofs.Common.{◌∷◌, ◌++◌, length, take, drop, get_or, set, codes, Option, Some, None, refl, sym, ap, ap₂}
+use Rattle.std.proofs.Common.{subst, ◌∙◌, arith}
 use Rattle.std.specs.Prelude.{if◌then◌else◌, nat_eq, replicate, IfNone, IfSome}
 use Rattle.std.specs.Fmt.{decimal}
 use Rattle.std.specs.Str.Parse.{digits_value}
@@ -14,8 +14,8 @@ use Rattle.std.proofs.lemmas.List.{length-take-le, take_all}
 use Rattle.std.proofs.Math.Seq.{take-suc, split_at}
 use Rattle.granit_base.specs.Written.{Written}
 use Rattle.granit_error.specs.OptionsData.{OptionsData, default_options}
-use Rattle.granit_words.specs.Words.{switch_text, word_of, IsNumber, Fits, IsSaidBy, set_in, option_of, sets}
-use Rattle.granit_words.specs.Words.{AreSaidBy, SetOnce, set_all, Say, AreInGrammar, GoWrongAt, spelled}
+use Rattle.granit_words.specs.Words.{switch_text, word_of, IsNumber, Fits, IsSaidBy, set_in, option_of, sets, AreSaidBy}
+use Rattle.granit_words.specs.Words.{SetOnce, set_all, Say, AreInGrammar, GoWrongAt, spelled}
 use Rattle.granit_words.specs.declared.words.Setting.{Setting}
 use Rattle.granit_words.specs.declared.words.Setting.TheVariants as setting
 use Rattle.granit_words.proofs.NumberLemmas.{decimal_value}
@@ -206,46 +206,26 @@ NoSwitch w name = (on : Bool) → w ≡ name ++ switch_text on → ⊥
 abbrev pub NoNumber : List ℕ → List ℕ → Type 0
 NoNumber w name = (n : ℕ) → IsNumber n → w ≡ name ++ decimal n → ⊥
 
-pub no_switch : (w : List ℕ) (r1 r2 r3 r4 r5 : Option Bool)
-    → IfNone r1 (NoSwitch w (codes "strict=")) → ((b : Bool) → r1 ≡ Some b → ⊥)
-    → IfNone r2 (NoSwitch w (codes "no-directives=")) → ((b : Bool) → r2 ≡ Some b → ⊥)
-    → IfNone r3 (NoSwitch w (codes "unresolved=")) → ((b : Bool) → r3 ≡ Some b → ⊥)
-    → IfNone r4 (NoSwitch w (codes "anchors=")) → ((b : Bool) → r4 ≡ Some b → ⊥)
-    → IfNone r5 (NoSwitch w (codes "comments=")) → ((b : Bool) → r5 ≡ Some b → ⊥)
+pub no_switch : (w : List ℕ) → NoSwitch w (codes "strict=") → NoSwitch w (codes "no-directives=")
+    → NoSwitch w (codes "unresolved=") → NoSwitch w (codes "anchors=") → NoSwitch w (codes "comments=")
     → (s : Setting) → option_of s < 5 → IsSaidBy s w → ⊥
-no_switch w r1 r2 r3 r4 r5 p1 n1 p2 n2 p3 n3 p4 n4 p5 n5 (setting.StrictIndentation on) l h =
-    none_of (NoSwitch w (codes "strict=")) r1 p1 n1 on h.1
-no_switch w r1 r2 r3 r4 r5 p1 n1 p2 n2 p3 n3 p4 n4 p5 n5 (setting.DisallowDirectives on) l h =
-    none_of (NoSwitch w (codes "no-directives=")) r2 p2 n2 on h.1
-no_switch w r1 r2 r3 r4 r5 p1 n1 p2 n2 p3 n3 p4 n4 p5 n5 (setting.EmitUnresolvedAliases on) l h =
-    none_of (NoSwitch w (codes "unresolved=")) r3 p3 n3 on h.1
-no_switch w r1 r2 r3 r4 r5 p1 n1 p2 n2 p3 n3 p4 n4 p5 n5 (setting.EmitAnchorEvents on) l h =
-    none_of (NoSwitch w (codes "anchors=")) r4 p4 n4 on h.1
-no_switch w r1 r2 r3 r4 r5 p1 n1 p2 n2 p3 n3 p4 n4 p5 n5 (setting.EmitComments on) l h =
-    none_of (NoSwitch w (codes "comments=")) r5 p5 n5 on h.1
-no_switch w r1 r2 r3 r4 r5 p1 n1 p2 n2 p3 n3 p4 n4 p5 n5 _ l h = absurd (omega (arith, l))
+no_switch w strict directives aliases anchors comments (setting.StrictIndentation on) l h = strict on h.1
+no_switch w strict directives aliases anchors comments (setting.DisallowDirectives on) l h = directives on h.1
+no_switch w strict directives aliases anchors comments (setting.EmitUnresolvedAliases on) l h = aliases on h.1
+no_switch w strict directives aliases anchors comments (setting.EmitAnchorEvents on) l h = anchors on h.1
+no_switch w strict directives aliases anchors comments (setting.EmitComments on) l h = comments on h.1
+no_switch w strict directives aliases anchors comments _ l h = absurd (omega (arith, l))
 
-pub no_limit : (w : List ℕ) (r1 r2 r3 r4 r5 r6 : Option ℕ)
-    → IfNone r1 (NoNumber w (codes "max-comments=")) → ((b : ℕ) → r1 ≡ Some b → ⊥)
-    → IfNone r2 (NoNumber w (codes "key-lookahead=")) → ((b : ℕ) → r2 ≡ Some b → ⊥)
-    → IfNone r3 (NoNumber w (codes "flow-limit=")) → ((b : ℕ) → r3 ≡ Some b → ⊥)
-    → IfNone r4 (NoNumber w (codes "block-limit=")) → ((b : ℕ) → r4 ≡ Some b → ⊥)
-    → IfNone r5 (NoNumber w (codes "directive-bytes=")) → ((b : ℕ) → r5 ≡ Some b → ⊥)
-    → IfNone r6 (NoNumber w (codes "directive-params=")) → ((b : ℕ) → r6 ≡ Some b → ⊥)
-    → (s : Setting) → 5 ≤ option_of s → IsSaidBy s w → ⊥
-no_limit w r1 r2 r3 r4 r5 r6 p1 n1 p2 n2 p3 n3 p4 n4 p5 n5 p6 n6 (setting.MaxBufferedCommentEvents n) l h =
-    none_of (NoNumber w (codes "max-comments=")) r1 p1 n1 n h.0 h.1
-no_limit w r1 r2 r3 r4 r5 r6 p1 n1 p2 n2 p3 n3 p4 n4 p5 n5 p6 n6 (setting.SimpleKeyMaxLookahead n) l h =
-    none_of (NoNumber w (codes "key-lookahead=")) r2 p2 n2 n h.0 h.1
-no_limit w r1 r2 r3 r4 r5 r6 p1 n1 p2 n2 p3 n3 p4 n4 p5 n5 p6 n6 (setting.FlowNestingLimit n) l h =
-    none_of (NoNumber w (codes "flow-limit=")) r3 p3 n3 n h.0 h.1
-no_limit w r1 r2 r3 r4 r5 r6 p1 n1 p2 n2 p3 n3 p4 n4 p5 n5 p6 n6 (setting.BlockNestingLimit n) l h =
-    none_of (NoNumber w (codes "block-limit=")) r4 p4 n4 n h.0 h.1
-no_limit w r1 r2 r3 r4 r5 r6 p1 n1 p2 n2 p3 n3 p4 n4 p5 n5 p6 n6 (setting.MaxDirectiveBytes n) l h =
-    none_of (NoNumber w (codes "directive-bytes=")) r5 p5 n5 n h.0 h.1
-no_limit w r1 r2 r3 r4 r5 r6 p1 n1 p2 n2 p3 n3 p4 n4 p5 n5 p6 n6 (setting.MaxReservedDirectiveParams n) l h =
-    none_of (NoNumber w (codes "directive-params=")) r6 p6 n6 n h.0 h.1
-no_limit w r1 r2 r3 r4 r5 r6 p1 n1 p2 n2 p3 n3 p4 n4 p5 n5 p6 n6 _ l h = absurd (omega (arith, l))
+pub no_limit : (w : List ℕ) → NoNumber w (codes "max-comments=") → NoNumber w (codes "key-lookahead=")
+    → NoNumber w (codes "flow-limit=") → NoNumber w (codes "block-limit=") → NoNumber w (codes "directive-bytes=")
+    → NoNumber w (codes "directive-params=") → (s : Setting) → 5 ≤ option_of s → IsSaidBy s w → ⊥
+no_limit w comments lookahead flow block bytes params (setting.MaxBufferedCommentEvents n) l h = comments n h.0 h.1
+no_limit w comments lookahead flow block bytes params (setting.SimpleKeyMaxLookahead n) l h = lookahead n h.0 h.1
+no_limit w comments lookahead flow block bytes params (setting.FlowNestingLimit n) l h = flow n h.0 h.1
+no_limit w comments lookahead flow block bytes params (setting.BlockNestingLimit n) l h = block n h.0 h.1
+no_limit w comments lookahead flow block bytes params (setting.MaxDirectiveBytes n) l h = bytes n h.0 h.1
+no_limit w comments lookahead flow block bytes params (setting.MaxReservedDirectiveParams n) l h = params n h.0 h.1
+no_limit w comments lookahead flow block bytes params _ l h = absurd (omega (arith, l))
 
 below_or_above : (k : ℕ) → (k < 5) ⊎ (5 ≤ k)
 below_or_above zero = inl (omega arith)
@@ -358,19 +338,19 @@ reaches_word ws flags o p s w r h l new e =
           ∙ sym (sets_more say.settings s k);
     }
 
-pub reaches_more : (words : List Written) (i j : ℕ) (v : Written) (flags more : List Bool) (option : ℕ)
-    (o p : OptionsData)
-    (s : Setting) → Reaches (take i (spelled words)) flags o → i < length words → j ≡ suc i → v ≡ get_or words i v
+pub reaches_more : (words : List Written) (i : ℕ) (v : Written) (flags : List Bool) (option : ℕ) (o p : OptionsData)
+    (s : Setting) → Reaches (take i (spelled words)) flags o → i < length words → v ≡ get_or words i v
     → IsSaidBy s (encode_utf8_all v.characters) → option ≡ option_of s → option < length flags
-    → get_or flags option false ≡ false → more ≡ set flags option true → p ≡ set_in s o
-    → Reaches (take j (spelled words)) more p
-reaches_more words i j v flags more option o p s r l next is h which within new set_is e =
+    → get_or flags option false ≡ false → p ≡ set_in s o
+    → Reaches (take (i + 1) (spelled words)) (set flags option true) p
+reaches_more words i v flags option o p s r l is h which within new e =
     let w = encode_utf8_all v.characters in
+    let next : i + 1 ≡ suc i = omega arith in
     let front = take-suc (spelled words) i [] (omega (arith, l, spelled_length words))
     ∙ ap (λ (x : List ℕ). take i (spelled words) ++ x ∷ []) (spelled_at words v i l is) in
     let one = reaches_word (take i (spelled words)) flags o p s w r h
     (subst (λ (k : ℕ). k < length flags) which within) (subst (λ (k : ℕ). get_or flags k false ≡ false) which new) e in
-    rw (next, front, set_is, which) one
+    rw (next, front, which) one
 
 last_said : (ss : List Setting) (ws : List (List ℕ)) (w : List ℕ) → AreSaidBy ss (ws ++ w ∷ [])
     → (s : Setting) × IsSaidBy s w

@@ -5,4 +5,21 @@ pub returns-clause-given : goal.returns-clause-given
 returns-clause-given c = onward_gives
 
 pub returns-clause-dropping : goal.returns-clause-dropping
-returns-clause-dropping c = onward_dropping
+returns-clause-dropping c =
+    λ o stops looked follows c b d e f n es reached at goes between lines failed on is gives.
+    onward_dropping o
+    (record {
+      stops = stops;
+      looked = looked;
+      follows = follows;
+      asked = c;
+      seen = b;
+      behind = d;
+      fault = f;
+      stopped = n;
+      at = at;
+      goes = goes;
+      between = between;
+      failed = failed;
+      is = is;
+    }) e es reached lines on gives

@@ -17,7 +17,7 @@ returns-in_err-refuse_unprintable-clause-here g c = λ h k n e.
     let f = c.args.frame in
     let bad = c.in_err-refuse_unprintable.ensures.here h k in
     rw (p.1, p.2) (λ other. content_at f.literal (chomping_data f.chomping) f.broken c.args.at.now.block_column
-    c.args.column f.start n h false _ _ bad.0 refl refl ∙ ap (λ (f : Refused). Err f) (sym bad.1))
+    c.args.column f.start n h bad.0 refl refl ∙ ap (λ (f : Refused). Err f) (sym bad.1))
 
 pub returns-then-next_is_z-clause-here : goal.returns-then-next_is_z-clause-here
 returns-then-next_is_z-clause-here g c = λ h k n e.
@@ -32,8 +32,7 @@ returns-then-next_is_z-clause-here g c = λ h k n e.
     let given = c.in_ok-content.ensures h (sym col) in (
       h,
       looked,
-      content_at f.literal chomping f.broken c.args.at.now.block_column c.args.column f.start n h true true _ clear.1 z
-          refl
+      content_at f.literal chomping f.broken c.args.at.now.block_column c.args.column f.start n h clear.1 z refl
           ∙ ap (λ (t : List ℕ). Ok (
             record {
               text = owned (no_content chomping f.broken t h);
@@ -56,7 +55,7 @@ returns-then-is_between-clause-here g c = λ h k n e.
     let b = sym (c.is_between.ensures h looked) ∙ c.if-is_between.true in
     λ other. rw (c.from_kind.ensures, c.mark-then-is_between.ensures.here h looked)
     (content_at f.literal (chomping_data f.chomping) f.broken c.args.at.now.block_column c.args.column f.start n h
-    true false true clear.1 z b)
+    clear.1 z b)
 
 pub returns-clause-here : goal.returns-clause-here
 returns-clause-here g c = λ h k n e.
@@ -67,6 +66,6 @@ returns-clause-here g c = λ h k n e.
     ∙ c.if-next_is_z.false in
     let b = sym (c.is_between.ensures h looked) ∙ c.if-is_between.false in
     let go = content_at f.literal (chomping_data f.chomping) f.broken c.args.at.now.block_column c.args.column f.start n
-    h true false false clear.1 z b in
+    h clear.1 z b in
     subst (λ (r : Result (BlockRead × Here) Fault). GivesTo content_data c.read_text.result
     (Stands g.T.Input.unread c.read_text.new.cursor) r) (sym go) (c.read_text.ensures.here h looked n e)

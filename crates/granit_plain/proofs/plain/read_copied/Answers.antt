@@ -18,8 +18,7 @@ returns-clause-here g c = λ h k start.
     let whole = copied_by at h c.args.start c.in_ok-front.front start c.in_ok-front.ensures
     ∙ ap (λ (r : Result (List ℕ × PlainState) Fault). r >>= plain_ended_by at c.args.start
     (λ value end. owned value)) read.2
-    ∙ sym (ended_same at c.args.start read.0 c.owned.result _ c.end_of-ended.result.end _
-    c.end_of-ended.result.on_new_line _ c.end_of-ended.result.cuts _
+    ∙ sym (ended_same at c.args.start read.0
     (c.owned.ensures ∙ ap (λ (p : PlainTaken). owned p.value) c.parts.view_is) c.end_of-ended.ensures.end
     c.end_of-ended.ensures.on_new_line c.end_of-ended.ensures.cuts) in
     subst (λ (r : Result (PlainRead × Here) Fault). GivesTo (λ _. plain_from c.args.start c.finish_plain.new.read)

@@ -22,8 +22,7 @@ returns-clause-here g c = λ h k.
     let whole = further_by at c.args.start front c.args.line.now.end h c.no_parts.result c.no_parts.ensures
     ∙ ap (λ (r : Result (List ℕ × PlainState) Fault). r
     >>= plain_ended_by at c.args.start (λ further last. text_of_lines c.args.start last front further)) read.2
-    ∙ sym (ended_same at c.args.start read.0 c.in_ok-text.text _ c.end_of-ended.result.end _
-    c.end_of-ended.result.on_new_line _ c.end_of-ended.result.cuts _
+    ∙ sym (ended_same at c.args.start read.0
     (c.in_ok-text.ensures.text ∙ text_by c.args.start c.in_ok-parts.parts.end c.line.result c.line-2.result front
     (chars c.as_str.result.now) c.in_ok-parts.parts.value c.line.ensures
     (c.line-2.ensures ∙ ap (λ (p : PlainTaken). p.end.place.line) c.parts.view_is)

@@ -6,7 +6,6 @@ use Rattle.granit_lexemes.specs.Here.{step}
 use Rattle.granit_lexemes.specs.Lexeme.{Lexeme}
 use Rattle.granit_machine.specs.PossibleKeys.{top_key}
 use Rattle.granit_machine.specs.ReaderState.{Read, with_tail}
-use Rattle.granit_items.specs.ItemViews.{lexeme_view}
 use Rattle.granit_content.specs.Reads.{IsAt, comment_kept, lexeme_in, tail_view}
 use Rattle.granit_content.proofs.CodedLemmas.{gives_lands}
 use Rattle.granit_signs.proofs.IndicatorLemmas.{colon_tailed, colon_fails, colon_same}
@@ -38,8 +37,8 @@ returns-clause-here g c = λ h k.
     let seen = tail_view c.in_ok-tail.tail in
     let tailed = c.put_tail.ensures ∙ ap (λ (x : Lexeme). with_tail x (comment_kept seen)) lexeme in
     let whole = colon_tailed o.emit_comments o c.args.ends h c.args.layouts.now fits seen tail.0 tail.2
-    ∙ sym (colon_same o (top_key c.args.layouts.now) (lexeme_view c.put_tail.new.found) _ c.mark-mark.result _
-    c.is_allowed-allowed.result _ tail.0 c.args.layouts.now tailed (c.mark-mark.ensures.here h looked) allowed) in
+    ∙ sym (colon_same o (top_key c.args.layouts.now) tail.0 c.args.layouts.now tailed
+    (c.mark-mark.ensures.here h looked) allowed) in
     subst (λ (r : Read). GivesTo (lexeme_in c.colon_by_key.new.found)
     (answered c.colon_by_key.new.fault c.colon_by_key.result)
     (IsAt g.T.Input.unread c.colon_tail.new.at c.colon_by_key.new.layouts) r) (sym whole)

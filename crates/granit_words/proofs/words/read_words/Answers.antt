@@ -1,4 +1,4 @@
-use Rattle.std.proofs.Common.{◌+◌, ◌<◌, true, List, length, get_or, refl, ap, ◌∙◌, arith, length-set}
+use Rattle.std.proofs.Common.{◌<◌, true, List, length, get_or, refl, ap, ◌∙◌, arith, length-set}
 use Rattle.granit_base.specs.Written.{Written}
 use Rattle.granit_error.specs.OptionsView.{options_of}
 use Rattle.granit_words.proofs.WordLemmas.{reaches_more, reaches_start, wrong_again, wrong_word}
@@ -42,13 +42,12 @@ words-preserved c =
     let within : c.words.i < length c.args.words.now =
     omega (arith, c.words-test.true, ap length c.as_slice-list.ensures) in
     record {
-      reaches = reaches_more c.args.words.now c.words.i (c.words.i + 1) word c.words.is_set _ c.option-option.result
+      reaches = reaches_more c.args.words.now c.words.i word c.words.is_set c.option-option.result
           (options_of c.words.options) (options_of c.set_in.new.options) c.in-Some.setting c.words.invariant.reaches
           within
-          (omega arith)
           (c.index-list-i.is ∙ ap (λ (xs : List Written). get_or xs c.words.i word) c.as_slice-list.ensures)
           c.in-Some.ensures.some c.option-option.ensures.is
-          (omega (arith, c.option-option.ensures.bound, c.words.invariant.flags)) c.if-is_set-option.false refl
+          (omega (arith, c.option-option.ensures.bound, c.words.invariant.flags)) c.if-is_set-option.false
           c.set_in.ensures;
       same = c.as_slice-list.ensures;
       flags = length-set c.words.is_set c.option-option.result true ∙ c.words.invariant.flags;
