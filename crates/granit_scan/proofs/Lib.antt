@@ -1,3 +1,4 @@
+pub mod MemoryLemmas
 pub mod RecoveryLemmas
 pub mod SettleLemmas
 pub mod Shortening

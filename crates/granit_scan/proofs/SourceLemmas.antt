@@ -1,6 +1,6 @@
 -- Why calls give and leave what they do where the source of an input may fail.
-use Rattle.std.proofs.Common.{◌≡◌, ◌≤◌, ℕ, Bool, true, false, ◌||◌, List, [], Option, Some, None, Result, Ok, Err}
-use Rattle.std.proofs.Common.{is_none, is_some, refl, sym, ap, subst, ◌∙◌, arith}
+use Rattle.std.proofs.Common.{◌≡◌, ◌≤◌, ℕ, Bool, true, false, ◌||◌, List, Option, Some, None, Result, Ok, Err}
+use Rattle.std.proofs.Common.{is_some, refl, sym, ap, subst, ◌∙◌, arith}
 use Rattle.std.specs.Option.{option_map}
 use Rattle.std.specs.Prelude.{if◌then◌else◌, IfOk, IfErr}
 use Rattle.std.specs.Result.{result_transpose}
@@ -12,8 +12,10 @@ use Rattle.granit_error.specs.Refused.{Refused}
 use Rattle.granit_input.specs.Origin.{Origin, Goes, Gave, error_given}
 use Rattle.granit_lexemes.specs.Outcome.{Fault}
 use Rattle.granit_scan.specs.Scanning.{Asks, CallFails, GivesNextToken, GivesStart, KeepsCopy, KeepsFirst, MovesAsked}
-use Rattle.granit_scan.specs.Scanning.{ScannerIn, ScannerStepsTo, TellsOf, TokenScanning, Unless, UnlessFailed}
-use Rattle.granit_scan.specs.Scanning.{error_since, first_kept_error, is_last_token, no_tokens}
+use Rattle.granit_scan.specs.Scanning.{ScannerIn, ScannerStepsTo, StepsWell, TellsOf, TokenScanning, Unless}
+use Rattle.granit_scan.specs.Scanning.{UnlessFailed, all_waiting, error_since, first_kept_error, is_last_token}
+use Rattle.granit_scan.specs.Scanning.{no_tokens}
+use Rattle.granit_scan.specs.TokenMemory.{KeepsWhole, WithoutTurn}
 use Rattle.granit_scan.specs.TokenSteps.{TokenState, next_token}
 use Rattle.granit_scan.specs.TokenViews.{PlainToken, plain_token}
 use Rattle.granit_scanner.specs.Scans as scans
@@ -180,14 +182,19 @@ pub steps_to : {I : Type 0} (unread : I → Unread → Type 0) (left : I → ℕ
     (GivesTo (option_map plain_token) q (ScannerIn unread t) (next_token s.items.options m)))
     → (s.failed ≡ false → UnlessFailed origin s t (λ e. (q ≡ Err e) × KeepsCopy (Some e) t.source_error)
     (GivesStart s.first q × (t.source_error ≡ None)))
+    → (s.failed ≡ false → UnlessFailed origin s t (λ e. Unit {0})
+    (WithoutTurn (all_waiting s) s.items (λ f. result_transpose q ≡ Some (Err f)) (StepsWell (result_transpose q))))
+    → (s.failed ≡ false → UnlessFailed origin s t (λ e. KeepsWhole e t.source_error) (Unit {0}))
     → TellsOf s t (result_transpose q) → t.comments ≡ s.comments
     → (s.failed ≡ true → (q ≡ Ok None) × (t ≡ s)) → t.items.options ≡ s.items.options → MovesAsked left origin s t
     → ScannerStepsTo unread left origin s (result_transpose q) t
-steps_to unread left origin s t q known source told comments over options moves = record {
+steps_to unread left origin s t q known source memory copied told comments over options moves = record {
   known = λ m at. failed_on origin s t t refl (λ e is. ap result_transpose is)
       (step_gives q (ScannerIn unread t) (next_token s.items.options m)) (known m at);
   source = λ going. failed_on origin s t t refl (λ e is. (ap result_transpose is.0, is.1)) (λ given. given.1)
       (source going);
+  memory = memory;
+  copied = copied;
   told = told;
   comments = comments;
   over = λ failed. let was = over failed in (ap result_transpose was.0, was.1);

@@ -1,6 +1,6 @@
 -- What contracts see of a scanner, and in which state of the machine it is known to be.
 use Rattle.std.specs.Prelude.{◌≡◌, ◌≤◌, ℕ, Bool, true, false, ◌&&◌, ◌||◌, nat_le, if◌then◌else◌, List, [], ◌∷◌, ◌++◌}
-use Rattle.std.specs.Prelude.{Option, Some, None, is_some, Result, Ok, Err, drop, slice_get}
+use Rattle.std.specs.Prelude.{IfSome, IsOk, Option, Some, None, is_some, Result, Ok, Err, drop, slice_get}
 use Rattle.granit_base.specs.Place.{Place, Mark, Unread}
 use Rattle.granit_cursor.specs.declared.token.Token.{Token}
 use Rattle.granit_error.specs.FaultKind.{FaultKind, fault_number, NoMemory, DirectiveDisallowed, YamlVersionTooLong}
@@ -10,6 +10,7 @@ use Rattle.granit_input.specs.Origin.{Origin, Goes}
 use Rattle.granit_lexemes.specs.Outcome.{Fault, Fails}
 use Rattle.granit_machine.specs.Lexing.{FlaggedItem}
 use Rattle.granit_scan.specs.Following.{Writing}
+use Rattle.granit_scan.specs.TokenMemory.{KeepsWhole, WithoutTurn}
 use Rattle.granit_scan.specs.TokenSteps.{TokenState, next_token}
 use Rattle.granit_scan.specs.TokenViews.{PlainToken, TokenKind, StartOfStream, EndOfStream, marked, plain_token}
 use Rattle.granit_scanner.specs.Scans as scans
@@ -35,6 +36,10 @@ pub record TokenScanning (I : Type 0) : Type 0 where
 abbrev pub first_tokens : Option Mark → List PlainToken
 first_tokens None = []
 first_tokens (Some m) = marked StartOfStream m ∷ []
+
+-- what a scanner has to give, the start of the stream first
+abbrev pub all_waiting : {I : Type 0} → TokenScanning I → List PlainToken
+all_waiting s = first_tokens s.first ++ s.writer.waiting
 
 -- a scanner is known to be in a state of the machine: no call failed, and what wasn't given yet waits
 pub record ScannerIn {I : Type 0} (unread : I → Unread → Type 0) (s : TokenScanning I) (m : TokenState) : Type 0 where
@@ -201,6 +206,10 @@ pub record CallGoesOn {I : Type 0} (old new : TokenScanning I) (t : Option Plain
   pub ended : new.ended ≡ (old.ended || is_last_token t)
   pub in_directive : new.failed_in_directive ≡ old.failed_in_directive
 
+-- a step of the iterator didn't fail
+abbrev pub StepsWell : NextToken → Type 0
+StepsWell r = IfSome r IsOk
+
 -- what is told of the stream behind a step
 abbrev pub TellsOf : {I : Type 0} → (old new : TokenScanning I) → NextToken → Type 0
 TellsOf old new None = CallGoesOn old new None
@@ -214,6 +223,9 @@ pub record ScannerStepsTo {I : Type 0} (unread : I → Unread → Type 0) (left 
       (GivesNextToken r (ScannerIn unread t) (next_token s.items.options m))
   pub source : s.failed ≡ false → UnlessFailed origin s t
       (λ e. (r ≡ Some (Err e)) × KeepsCopy (Some e) t.source_error) (t.source_error ≡ None)
+  pub memory : s.failed ≡ false → UnlessFailed origin s t (λ e. Unit {0})
+      (WithoutTurn (all_waiting s) s.items (λ f. r ≡ Some (Err f)) (StepsWell r))
+  pub copied : s.failed ≡ false → UnlessFailed origin s t (λ e. KeepsWhole e t.source_error) (Unit {0})
   pub told : TellsOf s t r
   pub comments : t.comments ≡ s.comments
   pub over : s.failed ≡ true → (r ≡ None) × (t ≡ s)

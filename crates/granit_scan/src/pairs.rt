@@ -1,6 +1,7 @@
 //! In which brackets a single pair is open.
-ghost use Rattle.std.specs.Prelude.{◌≡◌, true, false, [], ◌∷◌, drop, slice_get, OnOk};
+ghost use Rattle.std.specs.Prelude.{◌≡◌, ◌==◌, ◌&&◌, true, false, [], ◌∷◌, drop, length, slice_get, IsOk, OnOk};
 ghost use Rattle.granit_items.specs.ItemViews.{kind_view};
+ghost use Rattle.granit_scan.specs.TokenMemory.{tells_one_more};
 ghost use Rattle.granit_steps.specs.Tokens as spec;
 
 use granit_base::NoMemory;
@@ -58,7 +59,8 @@ impl Pairs {
 
     /// A single pair begins in the innermost bracket, or none does.
     pub(crate) fn begin_if(&mut self, begins: bool) -> Result<(), NoMemory>
-        ensures { OnOk result (self.new ≡ spec.with_pair_if begins self.old) }
+        ensures begun { OnOk result (self.new ≡ spec.with_pair_if begins self.old) }
+        ensures memory { (begins && (length self.old == 0)) ≡ false → IsOk result }
     {
         if !begins {
             return Ok(());
@@ -67,7 +69,8 @@ impl Pairs {
     }
 
     fn replace(&mut self, pair: bool) -> Result<(), NoMemory>
-        ensures { OnOk result (self.new ≡ pair ∷ drop 1 self.old) }
+        ensures replaced { OnOk result (self.new ≡ pair ∷ drop 1 self.old) }
+        ensures memory { (length self.old == 0) ≡ false → IsOk result }
     {
         self.list.pop();
         self.list.push(pair)?;
@@ -89,7 +92,8 @@ impl Pairs {
 
     /// What a lexeme leaves of them.
     pub(crate) fn follow(&mut self, kind: &LexemeKind<'_>) -> Result<(), NoMemory>
-        ensures { OnOk result (self.new ≡ spec.pairs_behind (kind_view kind.now) self.old) }
+        ensures followed { OnOk result (self.new ≡ spec.pairs_behind (kind_view kind.now) self.old) }
+        ensures memory { tells_one_more (kind_view kind.now) self.old ≡ false → IsOk result }
     {
         match kind {
             LexemeKind::Open(_) => self.open(),

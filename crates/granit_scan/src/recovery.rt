@@ -6,6 +6,7 @@ ghost use Rattle.granit_error.specs.FaultKind as faults;
 ghost use Rattle.granit_scan.specs.Recovering.{ProceedsUnless, Rests, ScannerProceeds};
 ghost use Rattle.granit_scan.specs.Scanning as spec;
 ghost use Rattle.granit_scan.specs.Scanning.{CallFails, KeepsCopy, MovesAsked, ScannerIn, ScannerKeeps, UnlessFailed};
+ghost use Rattle.granit_scan.specs.TokenMemory.{KeepsWhole};
 ghost use Rattle.granit_scan.specs.TokenSteps.{TokenState};
 ghost use Rattle.granit_scan.specs.TokenViews.{plain_token};
 
@@ -35,6 +36,7 @@ impl<'input, T: BorrowedInput<'input>> Scanner<'input, T> {
         ensures source { UnlessFailed T.origin self.old self.new
             (λ e. (result ≡ Err e) × KeepsCopy (Some e) self.new.source_error)
             (IfErr result (λ e. e.kind ≡ faults.NoMemory) × (self.new.source_error ≡ None)) }
+        ensures copied { UnlessFailed T.origin self.old self.new (λ e. KeepsWhole e self.new.source_error) (Unit {0}) }
         ensures going { IfOk result (λ x. self.new ≡ spec.revived self.new) }
         ensures failed { IfErr result (λ e. CallFails self.old self.new e.kind) }
         ensures over { self.old.wants_memory ≡ true → IfOk result (λ x. ⊥) }
@@ -74,6 +76,7 @@ impl<'input, T: BorrowedInput<'input>> Scanner<'input, T> {
         ensures source { UnlessFailed T.origin self.old self.new
             (λ e. (result ≡ Err e) × KeepsCopy (Some e) self.new.source_error)
             (IfErr result (λ e. e.kind ≡ faults.NoMemory) × (self.new.source_error ≡ None)) }
+        ensures copied { UnlessFailed T.origin self.old self.new (λ e. KeepsWhole e self.new.source_error) (Unit {0}) }
         ensures over { self.old.wants_memory ≡ true → IfOk result (λ x. ⊥) }
         ensures keeps { ScannerKeeps (record self.old { source_error = self.new.source_error }) self.new }
         ensures moves { MovesAsked T.left T.origin (record self.old { failed = false }) self.new }

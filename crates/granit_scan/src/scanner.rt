@@ -1,6 +1,6 @@
 //! An input that is read into tokens, one for each call.
 ghost use Rattle.std.specs.Prelude.{◌≡◌, ◌≤◌, ◌||◌, [], true, false, None, Some, Ok, Err, is_none, drop, slice_get};
-ghost use Rattle.std.specs.Prelude.{IfErr, IfOk};
+ghost use Rattle.std.specs.Prelude.{IfErr, IfOk, IfSome, IsOk};
 ghost use Rattle.std.specs.Option.{option_map};
 ghost use Rattle.std.specs.Result.{result_transpose};
 ghost use Rattle.granit_base.specs.Place.{Unread};
@@ -19,10 +19,11 @@ ghost use Rattle.granit_scan.specs.Recovering.{RestsIn, ScannerRefusesIn};
 ghost use Rattle.granit_scan.specs.Scanning as spec;
 ghost use Rattle.granit_scan.specs.Scanning.{CallFails, GivesStart, KeepsCopy, KeepsFirst, MovesAsked, ScannerIn};
 ghost use Rattle.granit_scan.specs.Scanning.{ScannerKeeps, ScannerTakesFree, TakesToken, TellsKeptError, UnlessFailed};
+ghost use Rattle.granit_scan.specs.TokenMemory.{AnswersKept, KeepsWhole, StateWithoutTurn, TellsWhole, WithoutTurn};
 ghost use Rattle.granit_scan.specs.TokenSteps as steps;
 ghost use Rattle.granit_scan.specs.TokenSteps.{TokenState};
 ghost use Rattle.granit_scan.specs.TokenViews.{plain_token};
-ghost use Rattle.granit_scanner.specs.Scans.{Known, may_front_go, wants_memory};
+ghost use Rattle.granit_scanner.specs.Scans.{Known, is_done, may_front_go, wants_memory};
 ghost use Rattle.granit_steps.specs.Steps.{is_over};
 
 use crate::writer::Writer;
@@ -166,6 +167,7 @@ impl<'input, T: BorrowedInput<'input>> Scanner<'input, T> {
     /// That error, at the place up to which was read when a call first met it, and `NoMemory`.
     pub fn check_source_error(&mut self) -> Result<(), ScanError>
         ensures told { TellsKeptError self.new.source_error result }
+        ensures memory { TellsWhole self.new.source_error result }
         ensures kind { option_map refused_kind self.new.source_error
             ≡ spec.first_kind self.old.source_error (error_given (T.origin self.old.items.cursor.input)) }
         ensures kept { (h : Here) → Stands T.unread self.old.items.cursor h → self.new.source_error
@@ -211,7 +213,8 @@ impl<'input, T: BorrowedInput<'input>> Scanner<'input, T> {
 
     /// The source's error, where one is kept.
     fn tell_source_error(&self) -> Result<(), ScanError>
-        ensures { TellsKeptError self.now.source_error result }
+        ensures told { TellsKeptError self.now.source_error result }
+        ensures memory { TellsWhole self.now.source_error result }
     {
         match &self.source_error {
             None => Ok(()),
@@ -223,6 +226,7 @@ impl<'input, T: BorrowedInput<'input>> Scanner<'input, T> {
     pub(crate) fn give_source_error(&mut self) -> Option<ScanError>
         ensures given { result ≡ self.old.source_error }
         ensures kept { KeepsCopy result self.new.source_error }
+        ensures memory { IfSome result (λ e. KeepsWhole e self.new.source_error) }
         ensures known { (m : TokenState) → ScannerIn T.unread self.old m → ScannerIn T.unread self.new m }
         ensures rest { self.new ≡ record self.old { source_error = self.new.source_error } }
     {
@@ -255,6 +259,13 @@ impl<'input, T: BorrowedInput<'input>> Scanner<'input, T> {
         ensures source { self.old.failed ≡ false → UnlessFailed T.origin self.old self.new
             (λ e. (result ≡ Err e) × KeepsCopy (Some e) self.new.source_error)
             (GivesStart self.old.first result × (self.new.source_error ≡ None)) }
+        ensures memory { self.old.failed ≡ false → UnlessFailed T.origin self.old self.new (λ e. Unit {0})
+            (WithoutTurn (spec.all_waiting self.old) self.old.items (λ f. result ≡ Err f) (IsOk result)) }
+        ensures known_memory { (m : TokenState) → ScannerIn T.unread self.old m
+            → UnlessFailed T.origin self.old self.new (λ e. Unit {0})
+            (StateWithoutTurn m (λ f. result ≡ Err f) (IsOk result)) }
+        ensures copied { self.old.failed ≡ false
+            → UnlessFailed T.origin self.old self.new (λ e. KeepsWhole e self.new.source_error) (Unit {0}) }
         ensures ended { IfOk result (λ t. self.new.ended
             ≡ (self.old.ended || spec.is_last_token (option_map plain_token t))) }
         ensures started { IfOk result (λ t. self.old.failed ≡ false → self.new.first ≡ None) }
@@ -333,6 +344,9 @@ impl<'input, T: BorrowedInput<'input>> Scanner<'input, T> {
         ensures source { UnlessFailed T.origin self.old self.new
             (λ e. (result ≡ Err e) × KeepsCopy (Some e) self.new.source_error)
             (IfErr result (λ e. self.old.first ≡ None) × (self.new.source_error ≡ None)) }
+        ensures memory { UnlessFailed T.origin self.old self.new (λ e. Unit {0})
+            (WithoutTurn (spec.all_waiting self.old) self.old.items (λ f. result ≡ Err f) (IsOk result)) }
+        ensures copied { UnlessFailed T.origin self.old self.new (λ e. KeepsWhole e self.new.source_error) (Unit {0}) }
         ensures keeps { ScannerKeeps (record self.old { source_error = self.new.source_error }) self.new }
         ensures moves { MovesAsked T.left T.origin self.old self.new }
     {
@@ -352,6 +366,7 @@ impl<'input, T: BorrowedInput<'input>> Scanner<'input, T> {
         ensures refused { (m : TokenState) → ScannerIn T.unread self.old m
             → ScannerRefusesIn T.unread self.old.items.options result self.new m }
         ensures start { IfErr result (λ e. self.old.first ≡ None) }
+        ensures memory { WithoutTurn (spec.all_waiting self.old) self.old.items (λ f. result ≡ Err f) (IsOk result) }
         ensures keeps { ScannerKeeps self.old self.new }
         ensures moves { Moves T.unread T.left T.origin self.old.items.cursor self.new.items.cursor }
     {
@@ -362,18 +377,19 @@ impl<'input, T: BorrowedInput<'input>> Scanner<'input, T> {
     }
 
     /// Turns until a token waits, or nothing is left.
-    #[tactic(auto, using(crate::proofs::SettleLemmas::leads_first, crate::proofs::SettleLemmas::no_turn_made))]
+    #[tactic(auto, using(crate::proofs::MemoryLemmas::unturned_first, crate::proofs::SettleLemmas::leads_first))]
     fn settle(&mut self) -> Result<(), ScanError>
         ensures known { (m : TokenState) → ScannerIn T.unread self.old m → self.old.first ≡ None
             → GivesTo spec.no_tokens result (ScannerIn T.unread self.new)
             (steps.settle_tokens self.old.items.options m) }
         ensures refused { (m : TokenState) → ScannerIn T.unread self.old m → self.old.first ≡ None
             → ScannerRefusesIn T.unread self.old.items.options result self.new m }
+        ensures memory { WithoutTurn self.old.writer.waiting self.old.items (λ f. result ≡ Err f) (IsOk result) }
         ensures keeps { ScannerKeeps self.old self.new }
         ensures moves { Moves T.unread T.left T.origin self.old.items.cursor self.new.items.cursor }
     {
         // Over an input of which nothing is known no number falls with each turn, so the turns are counted.
-        'turns: for _ in 0..u64::MAX {
+        'turns: for _made in 0..u64::MAX {
             if !self.turn()? {
                 return Ok(());
             }
@@ -388,6 +404,7 @@ impl<'input, T: BorrowedInput<'input>> Scanner<'input, T> {
             → GivesTo spec.token_turn_view result (ScannerIn T.unread self.new)
             (steps.token_turn self.old.items.options m) }
         ensures refused { (m : TokenState) → ScannerIn T.unread self.old m → RestsIn T.unread result self.new m }
+        ensures memory { WithoutTurn self.old.writer.waiting self.old.items (λ f. result ≡ Err f) (result ≡ Ok false) }
         ensures keeps { ScannerKeeps self.old self.new }
         ensures moves { Moves T.unread T.left T.origin self.old.items.cursor self.new.items.cursor }
     {
@@ -404,6 +421,8 @@ impl<'input, T: BorrowedInput<'input>> Scanner<'input, T> {
     fn take_free(&mut self) -> Option<Queued<'input>>
         ensures known { (m : TokenState) → ScannerIn T.unread self.old m
             → ScannerTakesFree T.unread (option_map queued_view result) self.new m }
+        ensures front { IfSome result (λ i. slice_get self.old.items.queue 0 ≡ Some (queued_view i)) }
+        ensures rest { self.new.items ≡ record (self.old.items) { queue = self.new.items.queue } }
         ensures keeps { ScannerKeeps self.old self.new }
         ensures writer { self.new.writer ≡ self.old.writer }
         ensures cursor { self.new.items.cursor ≡ self.old.items.cursor }
@@ -439,6 +458,7 @@ impl<'input, T: BorrowedInput<'input>> Scanner<'input, T> {
             → GivesTo spec.token_turn_view result (ScannerIn T.unread self.new)
             (steps.read_more_tokens self.old.items.options m.reading.ended m) }
         ensures refused { (m : TokenState) → ScannerIn T.unread self.old m → RestsIn T.unread result self.new m }
+        ensures memory { is_done self.old.items ≡ true → AnswersKept self.old.items.fault result }
         ensures keeps { ScannerKeeps self.old self.new }
         ensures moves { Moves T.unread T.left T.origin self.old.items.cursor self.new.items.cursor }
     {
@@ -455,6 +475,7 @@ impl<'input, T: BorrowedInput<'input>> Scanner<'input, T> {
             → GivesTo spec.token_turn_view result (ScannerIn T.unread self.new)
             (steps.read_more_tokens self.old.items.options m.reading.ended m) }
         ensures refused { (m : TokenState) → ScannerIn T.unread self.old m → RestsIn T.unread result self.new m }
+        ensures memory { AnswersKept self.old.items.fault result }
         ensures keeps { ScannerKeeps self.old self.new }
         ensures cursor { self.new.items.cursor ≡ self.old.items.cursor }
     {
@@ -489,7 +510,8 @@ fn is_of_directive(kind: &ErrorKind) -> bool
 
 /// A copy of an error, or want of memory.
 fn copy_of(alloc: Global, error: &ScanError) -> ScanError
-    ensures { KeepsCopy (Some error.now) (Some result) }
+    ensures kept { KeepsCopy (Some error.now) (Some result) }
+    ensures memory { KeepsWhole error.now (Some result) }
 {
     match error.try_clone(alloc) {
         Ok(copy) => copy,

@@ -1,5 +1,6 @@
 //! The tokens that are made and not yet given. One goes by a call of `drop`: in place, proofs write it out a kind.
-ghost use Rattle.std.specs.Prelude.{◌≡◌, ◌==◌, [], ◌∷◌, ◌++◌, length, replicate, drop, slice_get, Some, IfOk, OnOk};
+ghost use Rattle.std.specs.Prelude.{◌≡◌, ◌==◌, [], ◌∷◌, ◌++◌, length, replicate, drop, slice_get, false, None, Some};
+ghost use Rattle.std.specs.Prelude.{IfOk, IsOk, OnOk};
 ghost use Rattle.std.specs.Option.{option_map};
 ghost use Rattle.granit_items.specs.ItemViews.{boxed_lexeme, boxed_view, kind_view, note_view};
 ghost use Rattle.granit_scan.specs.Marks as marks;
@@ -79,7 +80,8 @@ impl<'input> Waiting<'input> {
         what: TokenType<'input>,
         mark: Marker,
     ) -> Result<(), NoMemory>
-        ensures { OnOk result (self.new ≡ self.old ++ inserted_if wanted (token_kind what.entry) mark) }
+        ensures inserted { OnOk result (self.new ≡ self.old ++ inserted_if wanted (token_kind what.entry) mark) }
+        ensures memory { wanted ≡ false → IsOk result }
     {
         if !wanted {
             return Ok(());
@@ -90,7 +92,8 @@ impl<'input> Waiting<'input> {
     /// So many block collections end at a place.
     #[tactic(auto, using(crate::proofs::WriteLemmas::no_more, crate::proofs::WriteLemmas::one_more))]
     pub(crate) fn insert_ends(&mut self, count: usize, mark: Marker) -> Result<(), NoMemory>
-        ensures { OnOk result (self.new ≡ self.old ++ replicate count (marked CollectionEnd mark)) }
+        ensures inserted { OnOk result (self.new ≡ self.old ++ replicate count (marked CollectionEnd mark)) }
+        ensures memory { count ≡ 0 → IsOk result }
     {
         'ends: for _done in 0..count {
             self.push(Token::new(Span::empty(mark), TokenType::BlockEnd))?;
@@ -109,8 +112,10 @@ impl<'input> Waiting<'input> {
         alloc: Global,
         handed: Option<Token<'input>>,
     ) -> Result<Option<Box<Lexeme<'input>>>, NoMemory>
-        ensures { IfOk result (λ m. option_map boxed_lexeme m
+        ensures taken { IfOk result (λ m. option_map boxed_lexeme m
             ≡ marks.mark_in (marks.handed (option_map plain_token handed.entry) ++ self.old)) }
+        ensures memory { marks.mark_in (marks.handed (option_map plain_token handed.entry) ++ self.old) ≡ None
+            → IsOk result }
     {
         let Some(token) = handed else {
             return self.pop_mark(alloc);
@@ -125,7 +130,8 @@ impl<'input> Waiting<'input> {
     }
 
     fn pop_mark(&mut self, alloc: Global) -> Result<Option<Box<Lexeme<'input>>>, NoMemory>
-        ensures { IfOk result (λ m. option_map boxed_lexeme m ≡ marks.mark_in self.old) }
+        ensures taken { IfOk result (λ m. option_map boxed_lexeme m ≡ marks.mark_in self.old) }
+        ensures memory { marks.mark_in self.old ≡ None → IsOk result }
     {
         'tokens: loop {
             match self.pop() {
@@ -172,7 +178,8 @@ impl<'input> Waiting<'input> {
     }
 
     fn pop_note(&mut self, alloc: Global) -> Result<Option<Box<Note<'input>>>, NoMemory>
-        ensures { IfOk result (λ t. option_map boxed_view t ≡ marks.tail_in self.old) }
+        ensures taken { IfOk result (λ t. option_map boxed_view t ≡ marks.tail_in self.old) }
+        ensures memory { marks.tail_in self.old ≡ None → IsOk result }
     {
         match self.pop() {
             None => Ok(None),
@@ -185,7 +192,8 @@ fn boxed<'input>(
     alloc: Global,
     note: Option<Note<'input>>,
 ) -> Result<Option<Box<Note<'input>>>, NoMemory>
-    ensures { IfOk result (λ t. option_map boxed_view t ≡ option_map note_view note.entry) }
+    ensures moved { IfOk result (λ t. option_map boxed_view t ≡ option_map note_view note.entry) }
+    ensures memory { option_map note_view note.entry ≡ None → IsOk result }
 {
     match note {
         None => Ok(None),

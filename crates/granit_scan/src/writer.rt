@@ -1,10 +1,12 @@
 //! Items are written as tokens.
-ghost use Rattle.std.specs.Prelude.{◌≡◌, ◌==◌, ◌++◌, length, drop, slice_get, IfOk, OnOk};
+ghost use Rattle.std.specs.Prelude.{◌≡◌, ◌==◌, true, false, ◌++◌, [], None, length, drop, slice_get, IfOk, IsOk, OnOk};
 ghost use Rattle.std.specs.Option.{option_map};
 ghost use Rattle.granit_items.specs.ItemViews.{boxed_lexeme, boxed_view, item_view, kind_view, lexeme_view};
 ghost use Rattle.granit_lexemes.specs.Lexeme.{is_entry_dash};
+ghost use Rattle.granit_machine.specs.Laid.{is_in_flow};
 ghost use Rattle.granit_scan.specs.Following as spec;
 ghost use Rattle.granit_scan.specs.Marks as marks;
+ghost use Rattle.granit_scan.specs.TokenMemory.{may_leave_more};
 ghost use Rattle.granit_scan.specs.TokenViews.{plain_token};
 ghost use Rattle.granit_steps.specs.Tokens as tokens;
 
@@ -102,8 +104,10 @@ impl<'input> Writer<'input> {
         alloc: Global,
         handed: Option<Token<'input>>,
     ) -> Result<Option<Box<Lexeme<'input>>>, NoMemory>
-        ensures { IfOk result (λ m. option_map boxed_lexeme m
+        ensures taken { IfOk result (λ m. option_map boxed_lexeme m
             ≡ marks.mark_in (marks.handed (option_map plain_token handed.entry) ++ self.old.waiting)) }
+        ensures memory { marks.mark_in (marks.handed (option_map plain_token handed.entry) ++ self.old.waiting) ≡ None
+            → IsOk result }
     {
         self.waiting.take_mark(alloc, handed)
     }
@@ -149,7 +153,8 @@ impl<'input> Writer<'input> {
 
     /// The ends of the block collections that a lexeme ends, whose columns are closed.
     fn write_ends(&mut self, lexeme: &Lexeme<'input>) -> Result<(), NoMemory>
-        ensures { OnOk result (self.new ≡ spec.with_ends (lexeme_view lexeme.now) self.old) }
+        ensures wrote { OnOk result (self.new ≡ spec.with_ends (lexeme_view lexeme.now) self.old) }
+        ensures memory { tokens.ended_blocks (lexeme_view lexeme.now) self.old.following.laid ≡ 0 → IsOk result }
     {
         let ended = self.close_before(lexeme);
         self.waiting.insert_ends(ended, lexeme.start)?;
@@ -185,7 +190,8 @@ impl<'input> Writer<'input> {
     /// What is inserted behind the ends of block collections.
     #[tactic(auto, using(crate::proofs::WriteLemmas::joined))]
     fn insert_before(&mut self, lexeme: &Lexeme<'input>, begins_key: bool) -> Result<(), NoMemory>
-        ensures { OnOk result (self.new ≡ spec.inserted_before begins_key (lexeme_view lexeme.now) self.old) }
+        ensures inserted { OnOk result (self.new ≡ spec.inserted_before begins_key (lexeme_view lexeme.now) self.old) }
+        ensures memory { spec.before_tokens begins_key (lexeme_view lexeme.now) self.old.following ≡ [] → IsOk result }
     {
         let mark = lexeme.start;
         let single = self.begins_single(lexeme, begins_key);
@@ -202,7 +208,9 @@ impl<'input> Writer<'input> {
     /// The start of a block collection, where a lexeme begins one.
     #[tactic(auto, using(crate::proofs::WriteLemmas::no_start, crate::proofs::WriteLemmas::some_start))]
     fn insert_start(&mut self, lexeme: &Lexeme<'input>, begins_key: bool) -> Result<(), NoMemory>
-        ensures { OnOk result (self.new ≡ spec.with_start begins_key (lexeme_view lexeme.now) self.old) }
+        ensures inserted { OnOk result (self.new ≡ spec.with_start begins_key (lexeme_view lexeme.now) self.old) }
+        ensures memory { spec.start_tokens (spec.is_new_at (lexeme_view lexeme.now).start.place.column
+            self.old.following.laid) begins_key (lexeme_view lexeme.now) ≡ [] → IsOk result }
     {
         if !self.is_new(lexeme.start.col()) {
             return Ok(());
@@ -248,7 +256,8 @@ impl<'input> Writer<'input> {
 
     /// What a lexeme leaves open, where the columns that it ends are closed.
     fn follow(&mut self, options: &Options, lexeme: &Lexeme<'input>) -> Result<(), NoMemory>
-        ensures { OnOk result (self.new ≡ spec.left_behind (lexeme_view lexeme.now) self.old) }
+        ensures left { OnOk result (self.new ≡ spec.left_behind (lexeme_view lexeme.now) self.old) }
+        ensures memory { may_leave_more (kind_view lexeme.now.kind) self.old.following ≡ false → IsOk result }
     {
         self.pairs.follow(&lexeme.kind)?;
         self.in_header = header_behind(&lexeme.kind, self.in_header);
@@ -281,9 +290,10 @@ impl<'input> Writer<'input> {
     /// column.
     #[tactic(auto, using(crate::proofs::WriteLemmas::entry_made))]
     fn enter(&mut self, options: &Options, mark: Marker) -> Result<(), NoMemory>
-        ensures { OnOk result (self.new ≡ spec.with_laid
+        ensures entered { OnOk result (self.new ≡ spec.with_laid
             (spec.entry_in_column mark.place.column self.old.following.laid)
             self.old) }
+        ensures memory { is_in_flow self.old.following.laid ≡ true → IsOk result }
     {
         self.layouts.set_last(LastLexeme::Another);
         if self.layouts.is_in_flow() {
@@ -310,7 +320,8 @@ impl<'input> Writer<'input> {
     }
 
     fn write_tail(&mut self, tail: Option<Box<Note<'input>>>) -> Result<(), NoMemory>
-        ensures { OnOk result (self.new ≡ spec.with_tail_written (option_map boxed_view tail.entry) self.old) }
+        ensures wrote { OnOk result (self.new ≡ spec.with_tail_written (option_map boxed_view tail.entry) self.old) }
+        ensures memory { option_map boxed_view tail.entry ≡ None → IsOk result }
     {
         match tail {
             None => Ok(()),

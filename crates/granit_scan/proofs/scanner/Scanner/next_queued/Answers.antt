@@ -4,8 +4,10 @@ use Rattle.granit_base.specs.Place.{Mark}
 use Rattle.granit_cursor.specs.declared.token.Token.{Token}
 use Rattle.granit_error.specs.Refused.{Refused}
 use Rattle.granit_scan.specs.Scanning.{GivesStart, KeepsCopy, TokenScanning}
+use Rattle.granit_scan.specs.TokenMemory.{KeepsWhole}
+use Rattle.granit_scan.proofs.MemoryLemmas.{failure_told, token_told, state_told}
 use Rattle.granit_scan.proofs.RecoveryLemmas.{refused_stays, rests_alike}
-use Rattle.granit_scan.proofs.SourceLemmas.{failed_on, fails_as, moves_on, no_start}
+use Rattle.granit_scan.proofs.SourceLemmas.{failed, failed_on, fails_as, moves_on, no_start}
 use Rattle.granit_scan.proofs.StateLemmas.{gives_token, next_fails}
 use Rattle.granit_scan.proofs.scanner.Scanner.next_queued.Goals as goal
 
@@ -72,3 +74,51 @@ returns-in-Err-clause-refused g c = λ m at.
     (ap (λ (s : TokenScanning g.row.T.Denot). s.writer) is) r)
     (Unit {0}) (Option Token) c.in-Err.error)
     (c.in-Err.ensures.refused m at)
+
+pub returns-in-Ok-clause-memory : goal.returns-in-Ok-clause-memory
+returns-in-Ok-clause-memory g c = λ going.
+    let s = c.args.self.now in
+    let same = ap (λ (s : TokenScanning g.row.T.Denot). s.items) c.take_token.ensures.rest in
+    failed_on g.T.Input.origin s c.ready.new.self c.take_token.new.self same (λ e u. u)
+    (token_told s c.in-Ok.field-0 c.take_token.result)
+    c.in-Ok.ensures.memory
+
+pub returns-in-Err-clause-memory : goal.returns-in-Err-clause-memory
+returns-in-Err-clause-memory g c = λ going.
+    let s = c.args.self.now in
+    let same = ap (λ (s : TokenScanning g.row.T.Denot). s.items) c.stop.ensures in
+    failed_on g.T.Input.origin s c.ready.new.self c.stop.new.self same (λ e u. u)
+    (failure_told (Unit {0}) (Option Token) s c.in-Err.error)
+    c.in-Err.ensures.memory
+
+pub returns-in-Ok-clause-known_memory : goal.returns-in-Ok-clause-known_memory
+returns-in-Ok-clause-known_memory g c = λ m at.
+    let s = c.args.self.now in
+    let same = ap (λ (s : TokenScanning g.row.T.Denot). s.items) c.take_token.ensures.rest in
+    failed_on g.T.Input.origin s c.ready.new.self c.take_token.new.self same (λ e u. u)
+    (λ told. state_told g.T.Input.unread s m at (Ok c.take_token.result)
+    (token_told s c.in-Ok.field-0 c.take_token.result told))
+    c.in-Ok.ensures.memory
+
+pub returns-in-Err-clause-known_memory : goal.returns-in-Err-clause-known_memory
+returns-in-Err-clause-known_memory g c = λ m at.
+    let s = c.args.self.now in
+    let same = ap (λ (s : TokenScanning g.row.T.Denot). s.items) c.stop.ensures in
+    failed_on g.T.Input.origin s c.ready.new.self c.stop.new.self same (λ e u. u)
+    (λ told. state_told g.T.Input.unread s m at (failed (Option Token) c.in-Err.error)
+    (failure_told (Unit {0}) (Option Token) s c.in-Err.error told))
+    c.in-Err.ensures.memory
+
+pub returns-in-Ok-clause-copied : goal.returns-in-Ok-clause-copied
+returns-in-Ok-clause-copied g c = λ going.
+    let same = ap (λ (s : TokenScanning g.row.T.Denot). s.items) c.take_token.ensures.rest in
+    let kept = ap (λ (s : TokenScanning g.row.T.Denot). s.source_error) c.take_token.ensures.rest in
+    failed_on g.T.Input.origin c.args.self.now c.ready.new.self c.take_token.new.self same
+    (λ e whole. subst (λ (r : Option Refused). KeepsWhole e r) (sym kept) whole) (λ u. u) c.in-Ok.ensures.copied
+
+pub returns-in-Err-clause-copied : goal.returns-in-Err-clause-copied
+returns-in-Err-clause-copied g c = λ going.
+    let same = ap (λ (s : TokenScanning g.row.T.Denot). s.items) c.stop.ensures in
+    let kept = ap (λ (s : TokenScanning g.row.T.Denot). s.source_error) c.stop.ensures in
+    failed_on g.T.Input.origin c.args.self.now c.ready.new.self c.stop.new.self same
+    (λ e whole. subst (λ (r : Option Refused). KeepsWhole e r) (sym kept) whole) (λ u. u) c.in-Err.ensures.copied

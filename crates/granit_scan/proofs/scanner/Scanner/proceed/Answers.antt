@@ -1,6 +1,7 @@
 use Rattle.std.proofs.Common.{false, refl, sym, ap, subst, ◌∙◌}
 use Rattle.std.specs.Option.{option_map}
 use Rattle.granit_scan.specs.Scanning.{TokenScanning}
+use Rattle.granit_scan.specs.TokenMemory.{KeepsWhole}
 use Rattle.granit_scan.specs.TokenViews.{plain_token}
 use Rattle.granit_scan.proofs.RecoveryLemmas.{proceeds_still}
 use Rattle.granit_scan.proofs.SourceLemmas.{ready_fails, ready_gives, ready_moves}
@@ -67,3 +68,20 @@ returns-in-Some-clause-moves g c =
     c.restart-restarted.ensures.moves.1 c.ask_source.ensures.origin c.ask_source.ensures.place
     c.ask_source.ensures.first (ap (λ (s : TokenScanning g.row.T.Denot). s.items) c.in-Some.ensures.rest)
     g.T.Input.left c.restart-restarted.ensures.moves.0 c.ask_source.ensures.left
+
+pub returns-in-None-clause-copied : goal.returns-in-None-clause-copied
+returns-in-None-clause-copied g c =
+    ready_gives g.T.Input.origin c.args.self.now c.restart-restarted.new.self c.ask_source.new.self
+    c.give_source_error.new.self c.restart-restarted.ensures.keeps.source_error
+    c.restart-restarted.ensures.moves.1 c.ask_source.ensures.origin c.ask_source.ensures.place
+    c.ask_source.ensures.first (ap (λ (s : TokenScanning g.row.T.Denot). s.items) c.in-None.ensures.rest)
+    _ (Unit {0}) c.in-None.ensures.given (tt {0})
+
+pub returns-in-Some-clause-copied : goal.returns-in-Some-clause-copied
+returns-in-Some-clause-copied g c =
+    ready_fails g.T.Input.origin c.args.self.now c.restart-restarted.new.self c.ask_source.new.self
+    c.give_source_error.new.self c.restart-restarted.ensures.keeps.source_error
+    c.restart-restarted.ensures.moves.1 c.ask_source.ensures.origin c.ask_source.ensures.place
+    c.ask_source.ensures.first (ap (λ (s : TokenScanning g.row.T.Denot). s.items) c.in-Some.ensures.rest)
+    (λ e. KeepsWhole e c.give_source_error.new.self.source_error) _ c.in-Some.error c.in-Some.ensures.given
+    c.in-Some.ensures.memory

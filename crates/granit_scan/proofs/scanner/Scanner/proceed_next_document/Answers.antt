@@ -3,6 +3,7 @@ use Rattle.std.specs.Option.{option_map}
 use Rattle.granit_error.specs.Refused.{Refused}
 use Rattle.granit_scan.specs.Recovering.{ScannerProceeds}
 use Rattle.granit_scan.specs.Scanning.{KeepsCopy, TokenScanning}
+use Rattle.granit_scan.specs.TokenMemory.{KeepsWhole}
 use Rattle.granit_scan.specs.TokenViews.{plain_token}
 use Rattle.granit_scan.proofs.RecoveryLemmas.{rests}
 use Rattle.granit_scan.proofs.SourceLemmas.{failed_on, moves_on}
@@ -62,3 +63,17 @@ pub returns-in-Err-clause-moves : goal.returns-in-Err-clause-moves
 returns-in-Err-clause-moves g c =
     moves_on g.T.Input.left g.T.Input.origin (record c.args.self.now { failed = false }) c.proceed.new.self
     c.stop.new.self (ap (λ (s : TokenScanning g.row.T.Denot). s.items) c.stop.ensures) c.in-Err.ensures.moves
+
+pub returns-in-Ok-clause-copied : goal.returns-in-Ok-clause-copied
+returns-in-Ok-clause-copied g c =
+    let same = ap (λ (s : TokenScanning g.row.T.Denot). s.items) c.revive.ensures in
+    let kept = ap (λ (s : TokenScanning g.row.T.Denot). s.source_error) c.revive.ensures in
+    failed_on g.T.Input.origin c.args.self.now c.proceed.new.self c.revive.new.self same
+    (λ e whole. subst (λ (r : Option Refused). KeepsWhole e r) (sym kept) whole) (λ u. u) c.in-Ok.ensures.copied
+
+pub returns-in-Err-clause-copied : goal.returns-in-Err-clause-copied
+returns-in-Err-clause-copied g c =
+    let same = ap (λ (s : TokenScanning g.row.T.Denot). s.items) c.stop.ensures in
+    let kept = ap (λ (s : TokenScanning g.row.T.Denot). s.source_error) c.stop.ensures in
+    failed_on g.T.Input.origin c.args.self.now c.proceed.new.self c.stop.new.self same
+    (λ e whole. subst (λ (r : Option Refused). KeepsWhole e r) (sym kept) whole) (λ u. u) c.in-Err.ensures.copied

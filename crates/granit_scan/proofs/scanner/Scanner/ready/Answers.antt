@@ -1,5 +1,6 @@
 use Rattle.std.proofs.Common.{refl, ap}
 use Rattle.granit_scan.specs.Scanning.{TokenScanning}
+use Rattle.granit_scan.specs.TokenMemory.{KeepsWhole}
 use Rattle.granit_scan.proofs.RecoveryLemmas.{refusal_stays, rests_alike, rests_on}
 use Rattle.granit_scan.proofs.SourceLemmas.{lands_on, ready_fails, ready_gives, ready_moves}
 use Rattle.granit_scan.proofs.scanner.Scanner.ready.Goals as goal
@@ -89,3 +90,36 @@ returns-in-Some-clause-refused g c = λ m at.
     c.settle_behind_start-settled.ensures.moves.1 c.ask_source.ensures.origin c.ask_source.ensures.place
     c.ask_source.ensures.first (ap (λ (s : TokenScanning g.row.T.Denot). s.items) c.in-Some.ensures.rest)
     (λ e. Unit {0}) _ c.in-Some.error c.in-Some.ensures.given (tt {0})
+
+pub returns-in-None-clause-memory : goal.returns-in-None-clause-memory
+returns-in-None-clause-memory g c =
+    ready_gives g.T.Input.origin c.args.self.now c.settle_behind_start-settled.new.self c.ask_source.new.self
+    c.give_source_error.new.self c.settle_behind_start-settled.ensures.keeps.source_error
+    c.settle_behind_start-settled.ensures.moves.1 c.ask_source.ensures.origin c.ask_source.ensures.place
+    c.ask_source.ensures.first (ap (λ (s : TokenScanning g.row.T.Denot). s.items) c.in-None.ensures.rest)
+    _ _ c.in-None.ensures.given c.settle_behind_start-settled.ensures.memory
+
+pub returns-in-Some-clause-memory : goal.returns-in-Some-clause-memory
+returns-in-Some-clause-memory g c =
+    ready_fails g.T.Input.origin c.args.self.now c.settle_behind_start-settled.new.self c.ask_source.new.self
+    c.give_source_error.new.self c.settle_behind_start-settled.ensures.keeps.source_error
+    c.settle_behind_start-settled.ensures.moves.1 c.ask_source.ensures.origin c.ask_source.ensures.place
+    c.ask_source.ensures.first (ap (λ (s : TokenScanning g.row.T.Denot). s.items) c.in-Some.ensures.rest)
+    (λ e. Unit {0}) _ c.in-Some.error c.in-Some.ensures.given (tt {0})
+
+pub returns-in-None-clause-copied : goal.returns-in-None-clause-copied
+returns-in-None-clause-copied g c =
+    ready_gives g.T.Input.origin c.args.self.now c.settle_behind_start-settled.new.self c.ask_source.new.self
+    c.give_source_error.new.self c.settle_behind_start-settled.ensures.keeps.source_error
+    c.settle_behind_start-settled.ensures.moves.1 c.ask_source.ensures.origin c.ask_source.ensures.place
+    c.ask_source.ensures.first (ap (λ (s : TokenScanning g.row.T.Denot). s.items) c.in-None.ensures.rest)
+    _ (Unit {0}) c.in-None.ensures.given (tt {0})
+
+pub returns-in-Some-clause-copied : goal.returns-in-Some-clause-copied
+returns-in-Some-clause-copied g c =
+    ready_fails g.T.Input.origin c.args.self.now c.settle_behind_start-settled.new.self c.ask_source.new.self
+    c.give_source_error.new.self c.settle_behind_start-settled.ensures.keeps.source_error
+    c.settle_behind_start-settled.ensures.moves.1 c.ask_source.ensures.origin c.ask_source.ensures.place
+    c.ask_source.ensures.first (ap (λ (s : TokenScanning g.row.T.Denot). s.items) c.in-Some.ensures.rest)
+    (λ e. KeepsWhole e c.give_source_error.new.self.source_error) _ c.in-Some.error c.in-Some.ensures.given
+    c.in-Some.ensures.memory

@@ -32,5 +32,5 @@ returns-clause-known g c = λ m rests told.
     subst (λ (s : TokenScanning g.row.T.Denot).
     ScannerProceeds unread s.items.cursor (option_map plain_token c.args.token) m (revived after)) c.self.view_is
     (proceeds unread inside m here (sym c.is_lost.ensures ∙ c.if-is_lost.false) c.args.token given
-    c.in_ok-mark.mark c.in_ok-mark.ensures c.in_ok-restart.field-0 after c.in_ok-restart.ensures.known
+    c.in_ok-mark.mark c.in_ok-mark.ensures.taken c.in_ok-restart.field-0 after c.in_ok-restart.ensures.known
     c.begin_anew.ensures)

@@ -1,14 +1,17 @@
-use Rattle.std.proofs.Common.{◌≡◌, [], true, false, ◌==◌, List, length, sym, ap, subst, ◌∙◌}
+use Rattle.std.proofs.Common.{◌≡◌, [], true, false, ◌==◌, List, length, Ok, refl, sym, ap, subst, ◌∙◌}
 use Rattle.granit_cursor.specs.Reading.{GivesTo}
 use Rattle.granit_error.specs.OptionsData.{OptionsData}
 use Rattle.granit_queue.specs.QueueViews.{queued_view}
 use Rattle.granit_scan.specs.Scanning.{ScannerIn, TokenScanning, token_turn_view}
+use Rattle.granit_scan.specs.TokenMemory.{AnswersKept}
 use Rattle.granit_scan.specs.TokenSteps.{TokenState, TokenTurn, read_more_tokens}
 use Rattle.granit_scan.specs.TokenViews.{PlainToken}
+use Rattle.granit_scan.proofs.MemoryLemmas.{item_waits, reading_over, token_waits}
 use Rattle.granit_scan.proofs.RecoveryLemmas.{memory_rests}
 use Rattle.granit_scan.proofs.StateLemmas.{waiting}
 use Rattle.granit_scan.proofs.TurnLemmas.{none_waits, turn_reads, turn_waits, turn_writes}
 use Rattle.granit_scan.proofs.scanner.Scanner.turn.Goals as goal
+use Rattle.granit_scanner.specs.Scans.{Scanning, is_done}
 
 pub returns-then-not-is_empty-clause-known : goal.returns-then-not-is_empty-clause-known
 returns-then-not-is_empty-clause-known g c = λ m at told.
@@ -64,3 +67,28 @@ returns-in-Some-clause-refused g c = λ m at.
 pub returns-in-None-clause-refused : goal.returns-in-None-clause-refused
 returns-in-None-clause-refused g c = λ m at.
     c.read_more.ensures.refused m (c.in-None.ensures.known m at).1
+
+pub returns-then-not-is_empty-clause-memory : goal.returns-then-not-is_empty-clause-memory
+returns-then-not-is_empty-clause-memory g c =
+    let writer = ap (λ (s : TokenScanning g.row.T.Denot). s.writer.waiting) c.self.view_is in
+    let some : (length c.self.inside.writer.waiting == 0) ≡ false =
+    sym c.is_empty.ensures ∙ c.if-not-is_empty.true in
+    token_waits c.args.self.now (Ok false) (ap (λ (ts : List PlainToken). length ts == 0) (sym writer) ∙ some) refl
+
+pub returns-in-Some-clause-memory : goal.returns-in-Some-clause-memory
+returns-in-Some-clause-memory g c =
+    let writer = ap (λ (s : TokenScanning g.row.T.Denot). s.writer.waiting) c.self.view_is in
+    let none : (length c.self.inside.writer.waiting == 0) ≡ true =
+    sym c.is_empty.ensures ∙ c.if-not-is_empty.false in
+    item_waits c.args.self.now c.write_item.result (queued_view c.in-Some.queued)
+    (sym writer ∙ none_waits c.self.inside.writer.waiting none) c.in-Some.ensures.front
+
+pub returns-in-None-clause-memory : goal.returns-in-None-clause-memory
+returns-in-None-clause-memory g c =
+    let writer = ap (λ (s : TokenScanning g.row.T.Denot). s.writer.waiting) c.self.view_is in
+    let none : (length c.self.inside.writer.waiting == 0) ≡ true =
+    sym c.is_empty.ensures ∙ c.if-not-is_empty.false in
+    reading_over c.args.self.now c.read_more.result
+    (sym writer ∙ none_waits c.self.inside.writer.waiting none)
+    (subst (λ (i : Scanning g.row.T.Denot). is_done i ≡ true → AnswersKept i.fault c.read_more.result)
+    c.in-None.ensures.rest c.read_more.ensures.memory)

@@ -9,6 +9,7 @@ returns c =
     let l = lexeme_view c.args.lexeme.now in
     let b = c.args.begins_key in
     c.in_ok-write_own.ensures
-    ∙ ap (with_own l) (c.in_ok-follow.ensures
-    ∙ ap (left_behind l) (c.in_ok-insert_before.ensures ∙ ap (inserted_before b l) c.in_ok-write_ends.ensures))
+    ∙ ap (with_own l) (c.in_ok-follow.ensures.left
+    ∙ ap (left_behind l) (c.in_ok-insert_before.ensures.inserted
+    ∙ ap (inserted_before b l) c.in_ok-write_ends.ensures.wrote))
     ∙ written_whole b l c.args.self.now
