@@ -2,7 +2,6 @@
 use Rattle.std.proofs.Common.{◌≡◌, ◌<◌, ◌==◌, ℕ, zero, suc, Bool, true, false, List, [], ◌∷◌, drop, refl, ap, sym, ◌∙◌}
 use Rattle.std.proofs.Common.{◌&&◌, ◌||◌, arith, subst}
 use Rattle.std.proofs.lemmas.Bool.Decides.{nat_tests}
-use Rattle.std.specs.Char.{is_ascii_lowercase}
 use Rattle.std.specs.List.{slice_index}
 use Rattle.granit_base.specs.Classes.{is_blank, is_blank_or_breakz, is_break, is_breakz, is_flow, is_printable}
 use Rattle.granit_base.specs.Classes.{is_within, is_z}
@@ -14,7 +13,7 @@ use Rattle.granit_runs.specs.Runs.{is_plain_ascii, is_quoted_ascii, is_quoted_ch
 use Rattle.granit_runs.specs.declared.class.Run.{Run}
 use Rattle.granit_runs.specs.declared.class.Run.TheVariants.{Of, Plain, Quoted, QuotedAscii}
 use Rattle.granit_runs.specs.declared.class.Run.TheVariants.{PlainWords, QuotedWords}
-use Rattle.granit_buffered.specs.Sure.{TellsAlone, taker_test, takes_letters}
+use Rattle.granit_buffered.specs.Sure.{TellsAlone, is_common, taker_test, takes_common}
 use Rattle.granit_buffered.specs.declared.sure.Taker.{Taker}
 use Rattle.granit_buffered.specs.declared.sure.Taker.TheVariants.{Sure, Blanks}
 
@@ -83,27 +82,27 @@ pub tells_of_text : (taker : Taker) (c : ℕ) (after text : List ℕ) → text �
 tells_of_text taker c after text is ends alone =
     ap (taker_test taker) is ∙ ends (subst (TellsAlone taker) (ap first is) alone) after
 
--- ---- letters
+-- ---- common characters
 
-letter_plain : (in_flow : Bool) (c : ℕ) → is_ascii_lowercase c ≡ true → is_plain_ascii in_flow c ≡ true
+common_plain : (in_flow : Bool) (c : ℕ) → is_common c ≡ true → is_plain_ascii in_flow c ≡ true
 unfolding is_flow
-letter_plain true c y = grind (arith, nat_tests)
-letter_plain false c y = grind (arith, nat_tests)
+common_plain true c y = grind (arith, nat_tests)
+common_plain false c y = grind (arith, nat_tests)
 
-letter_quoted : (single : Bool) (c : ℕ) → is_ascii_lowercase c ≡ true → is_quoted_ascii single c ≡ true
-letter_quoted true c y = grind (arith, nat_tests)
-letter_quoted false c y = grind (arith, nat_tests)
+common_quoted : (single : Bool) (c : ℕ) → is_common c ≡ true → is_quoted_ascii single c ≡ true
+common_quoted true c y = grind (arith, nat_tests)
+common_quoted false c y = grind (arith, nat_tests)
 
-letter_past : (single : Bool) (c : ℕ) → is_ascii_lowercase c ≡ true → is_quoted_char single c ≡ true
-letter_past single c y =
-    ap (λ (b : Bool). b || (is_within 0x80 0x10FFFF c && is_printable c)) (letter_quoted single c y)
+common_past : (single : Bool) (c : ℕ) → is_common c ≡ true → is_quoted_char single c ≡ true
+common_past single c y =
+    ap (λ (b : Bool). b || (is_within 0x80 0x10FFFF c && is_printable c)) (common_quoted single c y)
 
-pub letter_taken : (run : Run) (c : ℕ) (after : List ℕ) → takes_letters run ≡ true → is_ascii_lowercase c ≡ true
+pub common_taken : (run : Run) (c : ℕ) (after : List ℕ) → takes_common run ≡ true → is_common c ≡ true
     → run_test run (c ∷ after) ≡ true
-letter_taken (Of class) c after all low = absurd cc
-letter_taken (Plain in_flow) c after all low = plain_ascii in_flow c after (letter_plain in_flow c low)
-letter_taken (PlainWords in_flow) c after all low = word_ascii in_flow c after (letter_plain in_flow c low)
-letter_taken (Quoted single) c after all low = letter_past single c low
-letter_taken (QuotedAscii single) c after all low = letter_quoted single c low
-letter_taken (QuotedWords single) c after all low =
-    ap (λ (b : Bool). b || (c == 0x20 && is_quoted_char single (first after))) (letter_past single c low)
+common_taken (Of class) c after all low = absurd cc
+common_taken (Plain in_flow) c after all low = plain_ascii in_flow c after (common_plain in_flow c low)
+common_taken (PlainWords in_flow) c after all low = word_ascii in_flow c after (common_plain in_flow c low)
+common_taken (Quoted single) c after all low = common_past single c low
+common_taken (QuotedAscii single) c after all low = common_quoted single c low
+common_taken (QuotedWords single) c after all low =
+    ap (λ (b : Bool). b || (c == 0x20 && is_quoted_char single (first after))) (common_past single c low)

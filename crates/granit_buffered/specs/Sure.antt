@@ -1,6 +1,6 @@
 -- Characters that are taken whatever follows them.
-use Rattle.std.specs.Prelude.{◌≡◌, ℕ, ◌==◌, ◌&&◌, not, Bool, true, false, List, Option, Some, None}
-use Rattle.granit_base.specs.Classes.{is_blank_or_breakz, is_flow}
+use Rattle.std.specs.Prelude.{◌≡◌, ℕ, ◌==◌, ◌&&◌, ◌||◌, not, Bool, true, false, List, Option, Some, None}
+use Rattle.granit_base.specs.Classes.{is_blank_or_breakz, is_flow, is_within}
 use Rattle.granit_base.specs.Place.{Unread, first}
 use Rattle.granit_runs.specs.Runs.{run_test, starts}
 use Rattle.granit_runs.specs.Unread.{past_count}
@@ -15,14 +15,18 @@ use Rattle.granit_buffered.specs.declared.sure.Taker.TheVariants.{Sure, Blanks}
 abbrev pub is_plain_alone : Bool → ℕ → Bool
 is_plain_alone in_flow c = not (is_blank_or_breakz c) && (not (c == 0x3A) && not (in_flow && is_flow c))
 
--- what surely takes each letter from `a` to `z`
-abbrev pub takes_letters : Run → Bool
-takes_letters (Of class) = false
-takes_letters (Plain in_flow) = true
-takes_letters (Quoted single) = true
-takes_letters (QuotedAscii single) = true
-takes_letters (PlainWords in_flow) = true
-takes_letters (QuotedWords single) = true
+-- a character from `-` to `Z` but `:`, or one from `^` to `z`: most are one
+abbrev pub is_common : ℕ → Bool
+is_common c = is_within 0x5E 0x7A c || (is_within 0x2D 0x5A c && not (c == 0x3A))
+
+-- what surely takes each of these
+abbrev pub takes_common : Run → Bool
+takes_common (Of class) = false
+takes_common (Plain in_flow) = true
+takes_common (Quoted single) = true
+takes_common (QuotedAscii single) = true
+takes_common (PlainWords in_flow) = true
+takes_common (QuotedWords single) = true
 
 -- whether the first character is taken
 abbrev pub taker_test : Taker → List ℕ → Bool

@@ -1,6 +1,6 @@
 //! Characters of which at most sixteen are read ahead.
 ghost use Rattle.std.specs.Prelude.{◌≡◌, ℕ, ◌+◌, ◌-◌, ◌<◌, ◌≤◌, ◌^◌, List, [], ◌∷◌, ◌++◌, length, Option, None, false};
-ghost use Rattle.std.specs.Prelude.{true, max, min, drop, IfOk, OnOk, OnErr, MatchOption};
+ghost use Rattle.std.specs.Prelude.{true, max, min, drop, IfOk, IsOk, OnOk, OnErr, MatchOption};
 ghost use Rattle.std.specs.Iterator.{size};
 ghost use Rattle.granit_base.specs.Place.{Unread, first};
 ghost use Rattle.granit_error.specs.FaultKind.{FaultKind};
@@ -49,18 +49,18 @@ impl<T: Source<Item = char>> ReadAhead<PlainFeed<T>> {
     ///
     /// # Errors
     ///
-    /// `NoMemory` alone.
-    pub fn new(alloc: Global, input: T) -> Result<BufferedInput<T>, NoMemory>
+    /// None: what is held stands in the input itself.
+    pub fn new(_alloc: Global, input: T) -> Result<BufferedInput<T>, NoMemory>
         requires { size (T.remaining input) < 2 ^ 63 }
         ensures read { IfOk result (λ s. (xs : List ℕ) → GivesOnly T.next_gives T.remaining input xs
             → ⟦<ReadAhead<PlainFeed<T>> as Input>⟧.unread s (record { text = xs; offset = None; lends = false })) }
         ensures ends { IfOk result (λ s. (xs : List ℕ) → GivesOnly T.next_gives T.remaining input xs
             → (⟦<ReadAhead<PlainFeed<T>> as Input>⟧.origin s).ends_with None) }
         ensures few { IfOk result (λ s. (s.held ≡ []) × (s.feed.iterator ≡ input)) }
+        ensures memory { IsOk result }
     {
-        let held = Held::new(alloc)?;
         Ok(ReadAhead {
-            held,
+            held: Held::new(),
             feed: PlainFeed::new(input),
             window: 0,
         })
@@ -76,8 +76,8 @@ impl<T: Source<Item = Result<char, ErrorKind>>> ReadAhead<FallibleFeed<T>> {
     ///
     /// # Errors
     ///
-    /// `NoMemory` alone.
-    pub fn new(alloc: Global, input: T) -> Result<FallibleBufferedInput<T>, NoMemory>
+    /// None: what is held stands in the input itself.
+    pub fn new(_alloc: Global, input: T) -> Result<FallibleBufferedInput<T>, NoMemory>
         requires { size (T.remaining input) < 2 ^ 63 }
         ensures read { IfOk result (λ s. (items : List (Result ℕ ErrorKind))
             → GivesOnly T.next_gives T.remaining input items
@@ -88,10 +88,10 @@ impl<T: Source<Item = Result<char, ErrorKind>>> ReadAhead<FallibleFeed<T>> {
             → (⟦<ReadAhead<FallibleFeed<T>> as Input>⟧.origin s).ends_with (first_error items)) }
         ensures fresh { IfOk result (λ s. (⟦<ReadAhead<FallibleFeed<T>> as Input>⟧.origin s).handed_out ≡ false) }
         ensures few { IfOk result (λ s. (s.held ≡ []) × (s.feed.iterator ≡ input)) }
+        ensures memory { IsOk result }
     {
-        let held = Held::new(alloc)?;
         Ok(ReadAhead {
-            held,
+            held: Held::new(),
             feed: FallibleFeed::new(input),
             window: 0,
         })
@@ -115,11 +115,13 @@ impl<F: Feed> ReadAhead<F> {
         ensures goes { Goes (origin_of F.told F.ended F.error F.handed_out self.old.feed)
             (origin_of F.told F.ended F.error F.handed_out self.new.feed) }
     {
-        'fill: while self.held.len() < count {
+        let mut missing = count.saturating_sub(self.held.len());
+        'fill: while missing > 0 {
             match self.feed.next_char() {
                 Some(c) => self.held.push_back(c),
                 None => return,
             }
+            missing -= 1;
         }
     }
 
@@ -289,8 +291,15 @@ impl<F: Feed> Input for ReadAhead<F> {
 
     ghost fails = { λ s fault known ends. F.fails s.feed ends.0 fault known ends.1 };
 
-    ghost agrees = { λ s u k. buffer_agrees F.told F.bound F.ended F.error F.handed_out F.bounded F.over s.feed
-        s.held u k };
+    ghost agrees = { λ s u k. buffer_agrees (record {
+      told = F.told;
+      bound = F.bound;
+      ended = F.ended;
+      error = F.error;
+      handed_out = F.handed_out;
+      bounded = F.bounded;
+      over = F.over;
+    }) s.feed s.held u k };
 
     #[inline(always)]
     fn lookahead(&mut self, count: usize)

@@ -1,14 +1,12 @@
-//! Characters that were read ahead, in a room that is made once.
-ghost use Rattle.std.specs.Prelude.{◌≡◌, ◌<◌, ◌==◌, [], ◌∷◌, ◌++◌, length, drop, IfOk, slice_index};
+//! Characters that were read ahead.
+ghost use Rattle.std.specs.Prelude.{◌≡◌, ◌<◌, ◌==◌, [], ◌∷◌, ◌++◌, length, drop, slice_index};
 
-use granit_base::NoMemory;
-use std::alloc::Global;
 use std::marker::Model;
 
 /// Characters that were read ahead, the oldest first. They stand in the slots from `start` to `end`.
 #[derive(Drop)]
 pub(crate) struct Held {
-    slots: Vec<char>,
+    slots: [char; 32],
     start: usize,
     end: usize,
 }
@@ -18,22 +16,21 @@ impl Model for Held {
 
     ghost Value = { List ℕ };
 
-    ghost view = { λ h. drop h.start (take h.end h.slots.items) };
+    ghost view = { λ h. drop h.start (take h.end h.slots) };
 
-    ghost invariant = { λ h. (length h.slots.items ≡ 32) × (h.start ≤ h.end) × (h.end ≤ 32) };
+    ghost invariant = { λ h. (length h.slots ≡ 32) × (h.start ≤ h.end) × (h.end ≤ 32) };
 }
 
 impl Held {
     /// None is held.
-    pub(crate) fn new(alloc: Global) -> Result<Held, NoMemory>
-        ensures { IfOk result (λ held. held ≡ []) }
+    pub(crate) fn new() -> Held
+        ensures { result ≡ [] }
     {
-        let slots = vec![in alloc; '\0'; 32]?;
-        Ok(Held {
-            slots,
+        Held {
+            slots: ['\0'; 32],
             start: 0,
             end: 0,
-        })
+        }
     }
 
     /// How many are held.
@@ -94,8 +91,9 @@ impl Held {
         requires { length self.old < 16 }
         ensures { self.new ≡ self.old ++ c ∷ [] }
     {
-        self.slots.copy_within(self.start..self.end, 0);
-        self.end -= self.start;
+        let (start, end) = (self.start, self.end);
+        self.slots.copy_within(start..end, 0);
+        self.end -= start;
         self.start = 0;
         self.slots[self.end] = c;
         self.end += 1;
@@ -107,9 +105,10 @@ impl Held {
         requires { length self.old < 16 }
         ensures { self.new ≡ c ∷ self.old }
     {
-        self.slots.copy_within(self.start..self.end, 1);
+        let (start, end) = (self.start, self.end);
+        self.slots.copy_within(start..end, 1);
         self.slots[0] = c;
-        self.end = self.end - self.start + 1;
+        self.end = end - start + 1;
         self.start = 0;
     }
 }

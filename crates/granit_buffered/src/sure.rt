@@ -4,7 +4,7 @@ ghost use Rattle.granit_base.specs.Classes.{is_blank_or_breakz, is_flow};
 ghost use Rattle.granit_base.specs.Place.{first};
 ghost use Rattle.granit_runs.specs.Runs.{is_quoted_ascii, is_quoted_char, run_test};
 ghost use Rattle.granit_runs.specs.White.{is_skipped, found_more};
-ghost use Rattle.granit_buffered.specs.Sure.{TellsAlone, is_plain_alone, taker_test, takes_letters};
+ghost use Rattle.granit_buffered.specs.Sure.{TellsAlone, is_common, is_plain_alone, taker_test, takes_common};
 ghost use Rattle.granit_runs.specs.declared.class.Run.TheVariants.{Plain};
 
 use granit_base::{is_blank_or_breakz, is_flow, is_printable};
@@ -55,13 +55,13 @@ pub(crate) fn found_with(found: WhitespaceResult, c: char) -> WhitespaceResult
 
 /// Whether a run takes a character whatever follows it. That it doesn't is said of what isn't ` ` or `:`.
 #[inline(always)]
-#[tactic(auto, using(crate::proofs::SureLemmas::letter_taken))]
+#[tactic(auto, using(crate::proofs::SureLemmas::common_taken))]
 pub(crate) fn surely_takes(run: Run, c: char) -> bool
     ensures takes { result ≡ true → (after : List ℕ) → run_test run (c ∷ after) ≡ true }
     ensures ends { result ≡ false → (c == 0x20) ≡ false → (c == 0x3A) ≡ false → (after : List ℕ)
         → run_test run (c ∷ after) ≡ false }
 {
-    if c.is_ascii_lowercase() && takes_letters(run) {
+    if is_common(c) && takes_common(run) {
         return true;
     }
     match run {
@@ -74,10 +74,18 @@ pub(crate) fn surely_takes(run: Run, c: char) -> bool
     }
 }
 
-/// Whether a run surely takes each letter from `a` to `z`: most characters are one.
+/// Whether a character is one from `-` to `Z` but `:`, or one from `^` to `z`.
 #[inline(always)]
-fn takes_letters(run: Run) -> bool
-    ensures { result ≡ takes_letters run }
+fn is_common(c: char) -> bool
+    ensures { result ≡ is_common c }
+{
+    ('^' <= c && c <= 'z') || ('-' <= c && c <= 'Z' && c != ':')
+}
+
+/// Whether a run surely takes each of these: most characters are one.
+#[inline(always)]
+fn takes_common(run: Run) -> bool
+    ensures { result ≡ takes_common run }
 {
     match run {
         Run::Of(_) => false,
@@ -126,12 +134,13 @@ fn is_plain_alone(c: char, in_flow: bool) -> bool
 fn is_quoted_ascii(c: char, single: bool) -> bool
     ensures { result ≡ is_quoted_ascii single c }
 {
-    let stops = if single {
-        c == '\''
-    } else {
-        c == '"' || c == '\\'
-    };
-    c.is_ascii_graphic() && !stops
+    if !c.is_ascii_graphic() {
+        return false;
+    }
+    if single {
+        return c != '\'';
+    }
+    c != '"' && c != '\\'
 }
 
 /// Whether a character stands for itself in quotes, and is no blank.

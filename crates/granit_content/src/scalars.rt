@@ -1,16 +1,18 @@
 //! Scalars (YAML 1.2.2, 7.3 and 8.1).
-ghost use Rattle.std.specs.Prelude.{◌≡◌, ◌<◌, ◌^◌, true, None, IfOk, IsOk, OnOk};
+ghost use Rattle.std.specs.Prelude.{◌≡◌, ◌<◌, ◌^◌, true, false, None, IfOk, IsOk, OnOk};
 ghost use Rattle.std.specs.Option.{option_map};
 ghost use Rattle.granit_base.specs.PlainContent.{is_content};
 ghost use Rattle.granit_cursor.specs.Reading.{GivesTo, Moves, Stands, coded};
 ghost use Rattle.granit_error.specs.OptionsView.{options_of};
 ghost use Rattle.granit_lexemes.specs.BlockScalar.{block_indicator};
-ghost use Rattle.granit_lexemes.specs.Here.{Here, next_char};
-ghost use Rattle.granit_lexemes.specs.QuotedScalar.{quote_char};
+ghost use Rattle.granit_base.specs.Written.{string_chars};
+ghost use Rattle.granit_lexemes.specs.Here.{Here, mark_of, next_char};
+ghost use Rattle.granit_lexemes.specs.LayoutData.{LayoutData};
+ghost use Rattle.granit_lexemes.specs.QuotedScalar.{quote_char, quoted_scalar};
 ghost use Rattle.granit_machine.specs.Laid.{is_in_flow};
 ghost use Rattle.granit_machine.specs.NodeLexemes as spec;
 ghost use Rattle.granit_machine.specs.ReaderState.{with_tail};
-ghost use Rattle.granit_quoted.specs.QuotedCode.{remark_token};
+ghost use Rattle.granit_quoted.specs.QuotedCode.{remark_token, taken_scalar, words_alone};
 ghost use Rattle.granit_items.specs.ItemViews.{boxed_view, filled_items, lexeme_view};
 ghost use Rattle.granit_content.specs.KindViews.{note_of_token};
 ghost use Rattle.granit_refused.specs.Answered.{answered};
@@ -23,14 +25,16 @@ use crate::kinds::{lexeme_kind, note};
 use crate::lexeme::{Start, behind_tail, start_of, write_lexeme};
 use granit_base::{NoMemory, ScalarStyle, Text};
 use granit_block::scan_block_scalar;
-use granit_cursor::{Cursor, Token, take_plain, take_quoted};
+use granit_cursor::{Cursor, Token, lending_offset, take_plain, take_quoted};
 use granit_error::{Options, ScanError};
 use granit_input::BorrowedInput;
 use granit_items::{Found, Lexeme, LexemeKind, Note};
 use granit_layout::Layouts;
 use granit_lexemes::LastLexeme;
 use granit_plain::{PlainScalar, read_plain};
-use granit_quoted::{QuotedScalar, Remark, quoted_style, read_quoted};
+use granit_quoted::{
+    QuotedBegun, QuotedScalar, Remark, begin_quoted, finish_quoted, quoted_style, read_quoted,
+};
 use granit_refused::{Refused, keep_fault};
 use std::alloc::Global;
 
@@ -162,6 +166,101 @@ fn quoted_lexeme<'input, T: BorrowedInput<'input>>(
 /// The same where its end isn't seen at once.
 #[inline(never)]
 fn quoted_by_turns<'input, T: BorrowedInput<'input>>(
+    alloc: Global,
+    options: &Options,
+    at: &mut Cursor<T>,
+    layouts: &mut Layouts,
+    single: bool,
+    ends: bool,
+    found: &mut Lexeme<'input>,
+    fault: &mut Option<ScanError>,
+) -> Result<(), Refused>
+    requires room { layouts.old.number < 2 ^ 63 }
+    ensures here { (h : Here) → Stands T.unread at.old h → next_char h ≡ quote_char single
+        → GivesTo (lexeme_in found.new) (answered fault.new result) (IsAt T.unread at.new layouts.new)
+        (coded (incoming (options_of options.now).emit_comments)
+        (spec.quoted_lexeme (options_of options.now) single ends h layouts.old)) }
+    ensures moves { Moves T.unread T.left T.origin at.old at.new }
+{
+    match lending_offset(at) {
+        Some(_) => quoted_where_lent(alloc, options, at, layouts, single, ends, found, fault),
+        None => quoted_copied(alloc, options, at, layouts, single, ends, found, fault),
+    }
+}
+
+/// The same where the input lends nothing: mostly words end it.
+#[inline(always)]
+fn quoted_copied<'input, T: BorrowedInput<'input>>(
+    alloc: Global,
+    options: &Options,
+    at: &mut Cursor<T>,
+    layouts: &mut Layouts,
+    single: bool,
+    ends: bool,
+    found: &mut Lexeme<'input>,
+    fault: &mut Option<ScanError>,
+) -> Result<(), Refused>
+    requires room { layouts.old.number < 2 ^ 63 }
+    ensures here { (h : Here) → Stands T.unread at.old h → next_char h ≡ quote_char single → h.unread.lends ≡ false
+        → GivesTo (lexeme_in found.new) (answered fault.new result) (IsAt T.unread at.new layouts.new)
+        (coded (incoming (options_of options.now).emit_comments)
+        (spec.quoted_lexeme (options_of options.now) single ends h layouts.old)) }
+    ensures moves { Moves T.unread T.left T.origin at.old at.new }
+{
+    let start = start_of(at);
+    match begin_quoted(alloc, at, single, layouts.is_in_flow())? {
+        QuotedBegun::Closed(text) => {
+            let kind = LexemeKind::Scalar(quoted_style(single), Text::owned(text));
+            write_lexeme(found, layouts, ends, kind, &start, at.mark());
+            layouts.count_lexeme(LastLexeme::Adjacent);
+            Ok(())
+        }
+        QuotedBegun::Open(words) => {
+            quoted_behind(
+                alloc, options, at, layouts, single, ends, &start, words, found, fault,
+            )
+        }
+    }
+}
+
+/// The same behind words that were read.
+#[inline(never)]
+fn quoted_behind<'input, T: BorrowedInput<'input>>(
+    alloc: Global,
+    options: &Options,
+    at: &mut Cursor<T>,
+    layouts: &mut Layouts,
+    single: bool,
+    ends: bool,
+    start: &Start,
+    words: String,
+    found: &mut Lexeme<'input>,
+    fault: &mut Option<ScanError>,
+) -> Result<(), Refused>
+    requires room { layouts.old.number < 2 ^ 63 }
+    ensures here { (h now : Here) → Stands T.unread at.old now → IsStart start.now h
+        → ((d : LayoutData) → quoted_scalar single d h
+        ≡ taken_scalar single d (mark_of h) (words_alone (string_chars words)) now)
+        → GivesTo (lexeme_in found.new) (answered fault.new result) (IsAt T.unread at.new layouts.new)
+        (coded (incoming (options_of options.now).emit_comments)
+        (spec.quoted_lexeme (options_of options.now) single ends h layouts.old)) }
+    ensures moves { Moves T.unread T.left T.origin at.old at.new }
+{
+    let layout = layouts.layout(options, start.mark.col(), options.emit_comments);
+    let mut read: QuotedScalar<'input> = QuotedScalar::room(start.mark);
+    finish_quoted(
+        alloc, at, single, &layout, start.mark, words, &mut read, fault,
+    )?;
+    let kind = LexemeKind::Scalar(quoted_style(single), read.text);
+    write_lexeme(found, layouts, ends, kind, start, read.end);
+    put_comment(alloc, &mut read.comment, found)?;
+    layouts.count_lexeme(LastLexeme::Adjacent);
+    Ok(())
+}
+
+/// The same where the input lends.
+#[inline(never)]
+fn quoted_where_lent<'input, T: BorrowedInput<'input>>(
     alloc: Global,
     options: &Options,
     at: &mut Cursor<T>,

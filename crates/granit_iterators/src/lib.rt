@@ -1,7 +1,7 @@
 //! Iterators that may be read: the characters of every string, and the items of every list.
 #![tactic(auto)]
 
-ghost use Rattle.std.specs.Prelude.{◌≡◌, ◌<◌, ◌^◌, false, None, IfOk};
+ghost use Rattle.std.specs.Prelude.{◌≡◌, ◌<◌, ◌^◌, false, None, IfOk, IsOk};
 ghost use Rattle.std.specs.Iterator.{size};
 ghost use Rattle.std.specs.Str.{chars};
 ghost use Rattle.granit_buffered.specs.Fallible.{characters_of, first_error};
@@ -42,13 +42,14 @@ pub fn items(list: Vec<Result<char, ErrorKind>>) -> IntoIter<Result<char, ErrorK
 ///
 /// # Errors
 ///
-/// `NoMemory` alone.
+/// None.
 pub fn read_characters<'a>(
     alloc: Global,
     text: &'a str,
 ) -> Result<BufferedInput<Chars<'a>>, NoMemory>
-    ensures { IfOk result (λ s. ⟦<BufferedInput<Chars<'a>> as Input>⟧.unread s
+    ensures read { IfOk result (λ s. ⟦<BufferedInput<Chars<'a>> as Input>⟧.unread s
         (record { text = chars text.now; offset = None; lends = false })) }
+    ensures memory { IsOk result }
 {
     BufferedInput::new(alloc, characters(text))
 }
@@ -57,7 +58,7 @@ pub fn read_characters<'a>(
 ///
 /// # Errors
 ///
-/// `NoMemory` alone.
+/// None.
 pub fn read_items(
     alloc: Global,
     list: Vec<Result<char, ErrorKind>>,
@@ -70,6 +71,7 @@ pub fn read_items(
         (first_error list.items)) }
     ensures fresh { IfOk result (λ s.
         (⟦<FallibleBufferedInput<IntoIter<Result<char, ErrorKind>>> as Input>⟧.origin s).handed_out ≡ false) }
+    ensures memory { IsOk result }
 {
     FallibleBufferedInput::new(alloc, items(list))
 }

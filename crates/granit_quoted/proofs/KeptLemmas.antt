@@ -24,6 +24,7 @@ use Rattle.granit_cursor.proofs.MoveLemmas.{run_begins, steps_twice, KeepsLine, 
 use Rattle.granit_cursor.proofs.WordLemmas.{whole_rest}
 use Rattle.granit_quoted.specs.QuotedCode.{quoted_state, quoted_whole, quoted_ahead, content_read}
 use Rattle.granit_quoted.specs.QuotedCode.{nothing_quoted as begun, kept_char, kept_chars, copied_scalar, passed_scalar}
+use Rattle.granit_quoted.specs.QuotedCode.{taken_scalar}
 use Rattle.granit_quoted.specs.QuotedTaken.{QuotedTaken}
 use Rattle.granit_quoted.specs.declared.quoted.Ahead.TheVariants.{Blank, End}
 use Rattle.granit_runs.proofs.RunLemmas.{none_taken}
@@ -408,7 +409,8 @@ run_is single at start h n fits =
     sym (quoted_begins single at start begun h refl refl)
     ∙ sym (kept_whole single at start n begun h refl refl fits)
 
-closed_text : (single : Bool) (at : LayoutData) (start : Mark) (front : List ℕ) (h : Here) (text : List ℕ → Written)
+-- the closing quote is next behind them
+pub closed_text : (single : Bool) (at : LayoutData) (start : Mark) (front : List ℕ) (h : Here) (text : List ℕ → Written)
     → is_closing single h.unread.text ≡ true
     → rest_of single at start text (quoted_whole single at start (kept_chars begun front) h)
     ≡ quoted_tail single at start (text front) (step h)
@@ -487,10 +489,16 @@ copied_is single at h start is lends =
     ∙ own_rest single at start g _ (ap (λ b. is_verbatim single g.unread.text && b) lends
     ∙ and_none (is_verbatim single g.unread.text))
 
-pub copied_given : (single : Bool) (at : LayoutData) (start : Mark) (front : List ℕ) (h : Here)
+pub taken_given : (single : Bool) (at : LayoutData) (start : Mark) (p : QuotedTaken) (h : Here)
     (value whole : List ℕ) (s : QuotedState)
-    → quoted_whole single at start (kept_chars begun front) h ≡ Ok (value, s) → whole ≡ value ++ between_quoted s
-    → copied_scalar single at start front h ≡ quoted_tail single at start (owned whole) (step s.here)
-copied_given single at start front h value whole s is grown =
+    → quoted_whole single at start p h ≡ Ok (value, s) → whole ≡ value ++ between_quoted s
+    → taken_scalar single at start p h ≡ quoted_tail single at start (owned whole) (step s.here)
+taken_given single at start p h value whole s is grown =
     ap (rest_of single at start owned) is
     ∙ ap (λ (v : List ℕ). quoted_tail single at start (owned v) (step s.here)) (sym grown)
+
+-- the same whole gives the same scalar
+pub taken_same : (single : Bool) (at : LayoutData) (start : Mark) (q p : QuotedTaken) (now h : Here)
+    → quoted_whole single at start q now ≡ quoted_whole single at start p h
+    → taken_scalar single at start q now ≡ taken_scalar single at start p h
+taken_same single at start q p now h is = ap (rest_of single at start owned) is

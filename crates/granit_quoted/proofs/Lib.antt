@@ -1,3 +1,4 @@
+pub mod BegunLemmas
 pub mod EscapeLemmas
 pub mod KeptLemmas
 pub mod MemoryLemmas

@@ -5,61 +5,43 @@ use Rattle.std.proofs.Common.{append_assoc}
 use Rattle.std.proofs.lemmas.List.{append-nil}
 use Rattle.granit_base.specs.Classes.{is_blank, is_break, is_printable}
 use Rattle.granit_base.specs.Place.{Mark}
-use Rattle.granit_error.specs.FaultKind.{InvalidIndentation, UnclosedQuotedScalar, DocumentIndicatorInQuotedScalar}
-use Rattle.granit_error.specs.FaultKind.{TabInIndentation, InvalidQuotedScalarIndent, UnexpectedCharacter}
 use Rattle.granit_error.specs.Refused.{Refused}
-use Rattle.granit_lexemes.specs.Here.{Here, text_len, next_char, mark_of, step}
+use Rattle.granit_lexemes.specs.Here.{Here, text_len, next_char, step}
 use Rattle.granit_lexemes.specs.LayoutData.{LayoutData}
 use Rattle.granit_lexemes.specs.Outcome.{Fault, Fails, ◌>>=◌}
-use Rattle.granit_lexemes.specs.Basics.{fails_at}
 use Rattle.granit_lexemes.specs.QuotedScalar.{QuotedState, is_closing, escape_or, between_quoted, quoted_at}
 use Rattle.granit_lexemes.specs.QuotedScalar.{quoted_piece, quoted_content, quoted_turn, quoted_len}
 use Rattle.granit_lexemes.specs.QuotedScalar.{quoted_rest}
 use Rattle.granit_lexemes.proofs.PieceLemmas.{with_front-nil, loop_more, loop_done, loop_fails}
 use Rattle.granit_scalars.proofs.QuotedTurns.{quoted_shortens, tab_meets, strict_meets, loose_meets, mark_meets}
-use Rattle.granit_scalars.proofs.QuotedTurns.{turn_chain}
 use Rattle.granit_quoted.specs.QuotedCode.{quoted_state, quoted_whole, quoted_ahead, quoted_turn_of, content_read}
 use Rattle.granit_quoted.specs.QuotedCode.{added}
 use Rattle.granit_quoted.specs.QuotedCode.{escapes}
 use Rattle.granit_quoted.specs.QuotedTaken.{QuotedTaken}
 use Rattle.granit_quoted.specs.declared.quoted.Ahead.{Ahead}
-use Rattle.granit_quoted.specs.declared.quoted.Ahead.TheVariants.{Blank, Break, Content, End}
+use Rattle.granit_quoted.specs.declared.quoted.Ahead.TheVariants.{Content, End}
 
 -- ---- one turn, by what is next
 
-abbrev ahead_chain : Mark → QuotedState → (a t b d e f g p c : Bool) → Result Ahead Fault
-ahead_chain start s a t b d e f g p c =
-    if a then (if t then fails_at TabInIndentation (mark_of s.here) else Ok Blank)
-    else if b then Ok Break
-    else if d then fails_at InvalidIndentation (mark_of s.here)
-    else if e then fails_at InvalidQuotedScalarIndent (mark_of s.here)
-    else if f then fails_at DocumentIndicatorInQuotedScalar start
-    else if g then fails_at UnclosedQuotedScalar start
-    else if not p then fails_at (UnexpectedCharacter (next_char s.here)) (mark_of s.here)
-    else if c then Ok End
-    else Ok Content
-
-turn_by : (single : Bool) (start : Mark) (s : QuotedState) (a t b d e f g p c : Bool)
-    → turn_chain single start s a t b d e f g p c
-    ≡ (ahead_chain start s a t b d e f g p c >>= quoted_turn_of single start s)
-turn_by single start s true true b d e f g p c = refl
-turn_by single start s true false b d e f g p c = refl
-turn_by single start s false t true d e f g p c = refl
-turn_by single start s false t false true e f g p c = refl
-turn_by single start s false t false false true f g p c = refl
-turn_by single start s false t false false false true g p c = refl
-turn_by single start s false t false false false false true p c = refl
-turn_by single start s false t false false false false false false c = refl
-turn_by single start s false t false false false false false true true = refl
-turn_by single start s false t false false false false false true false = refl
+-- what goes on from either of two goes on from the one that a test chooses
+either_goes_on : {A B : Type 0} (f : A → Result B Fault) (test : Bool) (x y : Result A Fault) {p q : Result B Fault}
+    → p ≡ (x >>= f) → q ≡ (y >>= f) → (if test then p else q) ≡ ((if test then x else y) >>= f)
+either_goes_on f true x y e g = e
+either_goes_on f false x y e g = g
 
 turn_ahead : (single : Bool) (at : LayoutData) (start : Mark) (s : QuotedState)
     → quoted_turn single at start s ≡ (quoted_ahead single at start s >>= quoted_turn_of single start s)
 unfolding quoted_turn quoted_ahead
 turn_ahead single at start s =
-    turn_by single start s (is_blank (next_char s.here)) (tab_meets at s) (is_break (next_char s.here))
-    (strict_meets at s) (loose_meets single at s) (mark_meets s) (text_len s.here == 0)
-    (is_printable (next_char s.here)) (is_closing single s.here.unread.text)
+    let on = quoted_turn_of single start s in
+    either_goes_on on (is_blank (next_char s.here)) _ _ (either_goes_on on (tab_meets at s) _ _ refl refl)
+    (either_goes_on on (is_break (next_char s.here)) _ _ refl
+    (either_goes_on on (strict_meets at s) _ _ refl
+    (either_goes_on on (loose_meets single at s) _ _ refl
+    (either_goes_on on (mark_meets s) _ _ refl
+    (either_goes_on on (text_len s.here == 0) _ _ refl
+    (either_goes_on on (not (is_printable (next_char s.here))) _ _ refl
+    (either_goes_on on (is_closing single s.here.unread.text) _ _ refl refl)))))))
 
 pub turn_next : (single : Bool) (at : LayoutData) (start : Mark) (s : QuotedState) (k : Ahead)
     → quoted_ahead single at start s ≡ Ok k → quoted_turn single at start s ≡ quoted_turn_of single start s k

@@ -1,5 +1,5 @@
 -- A quoted scalar whose end is seen at once is read as it stands.
-use Rattle.std.proofs.Common.{◌≡◌, ℕ, ◌+◌, ◌<◌, ◌==◌, Bool, true, false, not, List, [], ◌∷◌}
+use Rattle.std.proofs.Common.{◌≡◌, ℕ, ◌+◌, ◌<◌, ◌≤◌, ◌==◌, Bool, true, false, not, List, [], ◌∷◌}
 use Rattle.std.proofs.Common.{length, take, drop, None, Ok, refl, sym, ap, ◌∙◌, subst, arith}
 use Rattle.std.proofs.lemmas.Bool.Decides.{nat_tests}
 use Rattle.std.proofs.Math.Seq.{take-append_seam}
@@ -16,8 +16,10 @@ use Rattle.granit_lexemes.specs.QuotedScalar.{behind_quoted, quoted_read, quoted
 use Rattle.granit_lexemes.proofs.HereLemmas.{past_stops, step_lends, step_text}
 use Rattle.granit_scalars.proofs.Comments.{steps_text}
 use Rattle.granit_cursor.proofs.QuotedMoves.{before_closing, behind_opening, over_quoted, quoted_steps, words_fit}
-use Rattle.granit_quoted.specs.QuotedCode.{passed_scalar}
-use Rattle.granit_quoted.proofs.KeptLemmas.{part_run, passed_is, words_inside}
+use Rattle.granit_lexemes.specs.Basics.{owned}
+use Rattle.granit_quoted.specs.QuotedCode.{kept_chars, nothing_quoted, passed_scalar, taken_scalar}
+use Rattle.granit_quoted.proofs.KeptLemmas.{closed_text, copied_is, kept_whole, part_run, passed_is, taken_same}
+use Rattle.granit_quoted.proofs.KeptLemmas.{words_inside}
 
 -- ---- the closing quote
 
@@ -89,15 +91,20 @@ tail_ends single at start text h e line =
 
 -- ---- the whole scalar
 
-pub seen_quoted : (single : Bool) (at : LayoutData) (h : Here) (inside : List ℕ)
-    → IsQuoted single at.in_flow h.unread.text inside → h.unread.lends ≡ true
-    → quoted_scalar single at h
-    ≡ Ok (
-      quoted_read single (mark_of h) (record { characters = inside; is_borrowed = true })
-          (mark_of (steps (length inside + 2) h)) None,
-      steps (length inside + 2) h,
-    )
-seen_quoted single at h inside q lends =
+record Seen (single : Bool) (at : LayoutData) (h : Here) (inside : List ℕ) : Type 0 where
+  whole : length inside ≡ run_length (starts (is_kept single)) (step h).unread.text
+  front : take (length inside) (step h).unread.text ≡ inside
+  closed : is_closing single (steps (length inside) (step h)).unread.text ≡ true
+  after : steps (length inside + 2) h ≡ step (steps (length inside) (step h))
+  tail : (text : Written) → quoted_tail single at (mark_of h) text (step (steps (length inside) (step h)))
+      ≡ Ok (
+        quoted_read single (mark_of h) text (mark_of (steps (length inside + 2) h)) None,
+        steps (length inside + 2) h,
+      )
+
+sees : (single : Bool) (at : LayoutData) (h : Here) (inside : List ℕ)
+    → IsQuoted single at.in_flow h.unread.text inside → Seen single at h inside
+sees single at h inside q =
     let n = length inside in
     let g = step h in
     let there = steps n g in
@@ -119,10 +126,52 @@ seen_quoted single at h inside q lends =
     let next : next_char (step there) ≡ first q.behind = ap first (step_text there ∙ ap (drop 1) closing) in
     let line : (step there).place.line ≡ h.place.line = ap (λ (x : Here). x.place.line) (sym after)
     ∙ ap (λ (p : Place). p.line) (over_quoted single at.in_flow h inside q).along.place in
-    let text : Written = record { characters = inside; is_borrowed = true } in
-    let tail = tail_ends single at (mark_of h) text (step there)
-    (subst (Ends at) (sym next) (ends at at.in_flow (first q.behind) refl q.ends)) line in
-    passed_is single at h (mark_of h) n refl whole (steps_text n g) (step_lends h ∙ lends)
-    ∙ ap (λ (t : List ℕ). passed_scalar single at (mark_of h) t there) front
+    record {
+      whole = whole;
+      front = front;
+      closed = closed;
+      after = after;
+      tail = λ text. tail_ends single at (mark_of h) text (step there)
+          (subst (Ends at) (sym next) (ends at at.in_flow (first q.behind) refl q.ends)) line
+          ∙ ap (λ (x : Here). Ok (quoted_read single (mark_of h) text (mark_of x) None, x)) (sym after);
+    }
+
+-- where the input lends, it is lent
+pub seen_quoted : (single : Bool) (at : LayoutData) (h : Here) (inside : List ℕ)
+    → IsQuoted single at.in_flow h.unread.text inside → h.unread.lends ≡ true
+    → quoted_scalar single at h
+    ≡ Ok (
+      quoted_read single (mark_of h) (record { characters = inside; is_borrowed = true })
+          (mark_of (steps (length inside + 2) h)) None,
+      steps (length inside + 2) h,
+    )
+seen_quoted single at h inside q lends =
+    let n = length inside in
+    let there = steps n (step h) in
+    let s = sees single at h inside q in
+    let closed = s.closed in
+    let tail = s.tail (record { characters = inside; is_borrowed = true }) in
+    passed_is single at h (mark_of h) n refl s.whole (steps_text n (step h)) (step_lends h ∙ lends)
+    ∙ ap (λ (t : List ℕ). passed_scalar single at (mark_of h) t there) s.front
     ∙ rw closed tail
-    ∙ ap (λ (x : Here). Ok (quoted_read single (mark_of h) text (mark_of x) None, x)) (sym after)
+
+-- where it doesn't, it is copied
+pub seen_owned : (single : Bool) (at : LayoutData) (h : Here) (inside : List ℕ)
+    → IsQuoted single at.in_flow h.unread.text inside → h.unread.lends ≡ false
+    → quoted_scalar single at h
+    ≡ Ok (
+      quoted_read single (mark_of h) (owned inside) (mark_of (steps (length inside + 2) h)) None,
+      steps (length inside + 2) h,
+    )
+seen_owned single at h inside q lends =
+    let n = length inside in
+    let g = step h in
+    let there = steps n g in
+    let start = mark_of h in
+    let s = sees single at h inside q in
+    let fits : n ≤ run_length (starts (is_kept single)) g.unread.text = omega (arith, s.whole) in
+    copied_is single at h start refl (step_lends h ∙ lends)
+    ∙ sym (taken_same single at start (kept_chars nothing_quoted (take n g.unread.text)) nothing_quoted there g
+    (kept_whole single at start n nothing_quoted g refl refl fits))
+    ∙ ap (λ (t : List ℕ). taken_scalar single at start (kept_chars nothing_quoted t) there) s.front
+    ∙ closed_text single at start inside there owned s.closed ∙ s.tail (owned inside)

@@ -1,6 +1,6 @@
 -- How the code reads a quoted scalar: a character of content a turn.
 use Rattle.std.specs.Prelude.{◌≡◌, ◌⊎◌, ℕ, ◌==◌, Bool, true, false, ◌&&◌, ◌||◌, not, if◌then◌else◌, List, [], ◌∷◌, ◌++◌}
-use Rattle.std.specs.Prelude.{slice_index, take, Option, Some, None, Result, Ok, Err}
+use Rattle.std.specs.Prelude.{◌+◌, length, slice_index, take, Option, Some, None, Result, Ok, Err}
 use Rattle.std.specs.Borrow.{Bor}
 use Rattle.std.specs.Str.{chars}
 use Rattle.std.specs.Option.{option_map}
@@ -13,8 +13,9 @@ use Rattle.granit_error.specs.FaultKind.{UnknownQuotedScalarEscape, InvalidQuote
 use Rattle.granit_error.specs.FaultKind.{InvalidLowSurrogateHexEscape, InvalidLowSurrogate, UnpairedLowSurrogate}
 use Rattle.granit_error.specs.FaultKind.{InvalidUnicodeEscape, CommentNotSeparated, UnexpectedCharacter}
 use Rattle.granit_error.specs.FaultKind.{InputSlicingUnavailable}
-use Rattle.granit_base.specs.Written.{Written}
+use Rattle.granit_base.specs.Written.{Written, string_chars}
 use Rattle.granit_error.specs.Refused.{Refused}
+use Rattle.granit_runs.specs.Quotes.{IsQuoted}
 use Rattle.granit_runs.specs.Runs.{run_length, starts}
 use Rattle.granit_lexemes.specs.Comment.{comment}
 use Rattle.granit_lexemes.specs.Here.{Here, text_len, next_char, mark_of, step}
@@ -33,6 +34,8 @@ use Rattle.granit_cursor.specs.declared.token.Token.{Token}
 use Rattle.granit_cursor.specs.declared.token.TokenType.TheVariants as tokens
 use Rattle.granit_quoted.specs.QuotedTaken.{QuotedTaken}
 use Rattle.granit_quoted.specs.declared.quoted.Ahead.{Ahead}
+use Rattle.granit_quoted.specs.declared.begun.QuotedBegun.{QuotedBegun}
+use Rattle.granit_quoted.specs.declared.begun.QuotedBegun.TheVariants.{Closed, Open}
 use Rattle.granit_quoted.specs.declared.quoted.QuotedScalar.{QuotedScalar}
 use Rattle.granit_quoted.specs.declared.quoted.Remark.{Remark}
 use Rattle.granit_quoted.specs.declared.quoted.Ahead.TheVariants.{Blank, Break, Content, End}
@@ -103,11 +106,28 @@ PassesKept single h (Ok (Some part)) Lands =
     × (h.unread.lends ≡ true) × (chars part.now ≡ take n h.unread.text)
 PassesKept single h (Err e) Lands = ⊥
 
--- a scalar some of whose text was passed already, and whose text is copied
-abbrev pub copied_scalar : Bool → LayoutData → Mark → (front : List ℕ) → Here → Result (QuotedRead × Here) Fault
-copied_scalar single at start front h =
-    quoted_whole single at start (kept_chars nothing_quoted front) h >>= λ x.
+-- a scalar whose text is copied, behind what was taken of it
+abbrev pub taken_scalar : Bool → LayoutData → Mark → QuotedTaken → Here → Result (QuotedRead × Here) Fault
+taken_scalar single at start p h =
+    quoted_whole single at start p h >>= λ x.
     quoted_tail single at start (owned (x.0 ++ between_quoted x.1)) (step x.1.here)
+
+-- the same where some of its text was passed already
+abbrev pub copied_scalar : Bool → LayoutData → Mark → (front : List ℕ) → Here → Result (QuotedRead × Here) Fault
+copied_scalar single at start front h = taken_scalar single at start (kept_chars nothing_quoted front) h
+
+-- words alone were taken
+abbrev pub words_alone : List ℕ → QuotedTaken
+words_alone words = record { value = words; pending = []; on_new_line = false; escaped = false }
+
+-- Of a scalar that begins here its words in front were read: they are all of it, and its end is seen, or what follows
+-- them is left.
+abbrev pub QuotedBeginsTo : Bool → (in_flow : Bool) → Here → QuotedBegun → (Here → Type 0) → Type 0
+QuotedBeginsTo single in_flow h (Closed text) Lands =
+    IsQuoted single in_flow h.unread.text (string_chars text) × Lands (steps (length (string_chars text) + 2) h)
+QuotedBeginsTo single in_flow h (Open text) Lands =
+    (now : Here) × Lands now × ((at : LayoutData) (start : Mark)
+    → taken_scalar single at start (words_alone (string_chars text)) now ≡ copied_scalar single at start [] (step h))
 
 -- where the closing quote is next, what was passed is the text
 abbrev pub passed_scalar : Bool → LayoutData → Mark → (front : List ℕ) → Here → Result (QuotedRead × Here) Fault

@@ -23,11 +23,12 @@ ghost use Rattle.granit_quoted.specs.QuotedCode.{quoted_whole, quoted_ahead, con
 ghost use Rattle.granit_quoted.specs.QuotedCode.{TakesContent};
 ghost use Rattle.granit_quoted.specs.QuotedCode.{added, escapes, GoesWords, QuotedTurnsTo, QuotedPartsTo, IsQuotedKind};
 ghost use Rattle.granit_quoted.specs.QuotedCode.{kept_char, kept_chars, nothing_quoted, PassesKept};
-ghost use Rattle.granit_quoted.specs.QuotedCode.{copied_scalar, passed_scalar};
+ghost use Rattle.granit_quoted.specs.QuotedCode.{copied_scalar, passed_scalar, taken_scalar};
 ghost use Rattle.granit_cursor.specs.WithoutMemory.{WithoutMemoryAt};
 ghost use Rattle.granit_quoted.specs.QuotedMemory.{quoted_takes_none};
 ghost use Rattle.granit_refused.specs.Answered.{answered};
 
+use crate::begun::{USUAL_LENGTH, is_closing};
 use crate::escape::escape;
 use granit_base::{
     Marker, NoMemory, ScalarStyle, Span, Text, is_at_end, is_blank, is_break, is_printable,
@@ -178,20 +179,17 @@ pub fn quoted_style(single: bool) -> ScalarStyle
     ScalarStyle::DoubleQuoted
 }
 
-/// Most texts that are copied have no more bytes.
-const USUAL_LENGTH: usize = 24;
-
 /// What was read of a quoted scalar.
 #[derive(Drop)]
-struct QuotedParts {
+pub(crate) struct QuotedParts {
     /// Its value up to the last character of content.
-    value: String,
+    pub(crate) value: String,
     /// What was read since then: blanks, or behind a break a line feed for each empty line.
-    pending: String,
+    pub(crate) pending: String,
     /// Whether a break was read since then.
-    on_new_line: bool,
+    pub(crate) on_new_line: bool,
     /// Whether a backslash escapes the first of these breaks.
-    escaped: bool,
+    pub(crate) escaped: bool,
 }
 
 impl Model for QuotedParts {
@@ -240,22 +238,6 @@ fn is_loosely_left(at: &Layout, escaped: bool, closing: bool, column: usize) -> 
     ensures { result ≡ spec.is_loosely_left (layout_data at.now) escaped closing column }
 {
     !(at.in_flow || escaped) && (at.strict || !closing) && at.is_left(column)
-}
-
-/// The quote.
-fn quote(single: bool) -> char
-    ensures { result ≡ spec.quote_char single }
-{
-    if single { '\'' } else { '"' }
-}
-
-/// Whether the closing quote is next; between single quotes a doubled one is content.
-#[tactic(auto, unfolding(granit_lexemes::specs::QuotedScalar::is_closing))]
-fn is_closing<T: Input>(cursor: &Cursor<T>, single: bool) -> bool
-    requires { 4 ≤ T.window cursor.now.input }
-    ensures { (h : Here) → Stands T.unread cursor.now h → result ≡ spec.is_closing single h.unread.text }
-{
-    cursor.input().peek() == quote(single) && !(single && cursor.input().peek_nth(1) == '\'')
 }
 
 /// What stands next, or why it is refused.
@@ -732,7 +714,27 @@ fn read_copied<'input, T: BorrowedInput<'input>>(
     ensures moves { Moves T.unread T.left T.origin cursor.old cursor.new }
 {
     let behind = parts_begun(alloc, cursor, single, front)?;
-    let mut parts = quoted_parts(cursor, single, at, start, behind, fault)?;
+    read_parts(alloc, cursor, single, at, start, behind, read, fault)
+}
+
+/// The same behind what was taken of it.
+pub(crate) fn read_parts<'input, T: BorrowedInput<'input>>(
+    alloc: Global,
+    cursor: &mut Cursor<T>,
+    single: bool,
+    at: &Layout,
+    start: Marker,
+    taken: QuotedParts,
+    read: &mut QuotedScalar<'input>,
+    fault: &mut Option<ScanError>,
+) -> Result<(), Refused>
+    ensures here { Wherever T.unread cursor.old cursor.new (λ h Lands.
+        GivesTo (λ _. quoted_from single start read.new) (answered fault.new result) Lands (coded (quoted_lexed single)
+        (taken_scalar single (layout_data at.now) start taken h))) }
+    ensures kinds { IfErr (answered fault.new result) (λ e. IsQuotedKind e.kind) }
+    ensures moves { Moves T.unread T.left T.origin cursor.old cursor.new }
+{
+    let mut parts = quoted_parts(cursor, single, at, start, taken, fault)?;
     cursor.step();
     push_between(&mut parts)?;
     read.text = Text::owned(parts.value);

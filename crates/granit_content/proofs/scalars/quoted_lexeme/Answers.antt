@@ -14,7 +14,8 @@ use Rattle.granit_content.proofs.ScalarLemmas.{quoted_items}
 use Rattle.granit_content.proofs.scalars.quoted_lexeme.Goals as goal
 
 pub returns-in-None-clause-here : goal.returns-in-None-clause-here
-returns-in-None-clause-here g c = λ h k. c.quoted_by_turns.ensures.here h (c.in-None.ensures.here h k)
+returns-in-None-clause-here g c = λ h k.
+    c.quoted_by_turns.ensures.here h (c.in-None.ensures.here h k) (c.requires.sign h k)
 
 pub returns-in-Some-clause-here : goal.returns-in-Some-clause-here
 returns-in-Some-clause-here g c = λ h k.

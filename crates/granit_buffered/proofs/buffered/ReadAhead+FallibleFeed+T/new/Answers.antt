@@ -8,7 +8,7 @@ returns-clause-read g c = λ items known.
     let s = c.new-2.result in
     let comes = fresh_comes g.T.Iterator.next_gives g.T.Iterator.remaining c.args.input s.iterator s.progress items
     c.new-2.ensures.0 c.new-2.ensures.1 known in
-    (refl, refl, (first_error items, (characters_of items, rw c.in_ok-held.ensures refl, comes)))
+    (refl, refl, (first_error items, (characters_of items, rw c.new.ensures refl, comes)))
 
 pub returns-clause-ends : goal.returns-clause-ends
 returns-clause-ends g c = λ items known.

@@ -1,4 +1,4 @@
-use Rattle.std.proofs.Common.{◌≡◌, ◌-◌, ◌+◌, ◌≤◌, ℕ, List, Option, length, max, true}
+use Rattle.std.proofs.Common.{◌≡◌, ◌+◌, ◌≤◌, ℕ, List, Option, length, max, true}
 use Rattle.granit_error.specs.FaultKind.{FaultKind}
 use Rattle.granit_input.specs.Origin.{Goes}
 use Rattle.granit_buffered.specs.Feeds.{Holds, of_feed}
@@ -11,7 +11,7 @@ invariant-fill g l = record {
   left : length l.self.held + g.F.Feed.bound l.self.feed
       ≤ length l.fn.self.held + g.F.Feed.bound l.fn.self.feed;
   window : l.self.window ≡ l.fn.self.window;
-  few : length l.self.held ≤ max l.count (length l.fn.self.held);
+  few : length l.self.held + l.missing ≡ max l.count (length l.fn.self.held);
   stays : g.F.Feed.ended l.fn.self.feed ≡ true → g.F.Feed.ended l.self.feed ≡ true;
   goes : Goes (of_feed (g.F.Feed.ended l.fn.self.feed) (g.F.Feed.error l.fn.self.feed)
       (g.F.Feed.handed_out l.fn.self.feed))
@@ -19,4 +19,4 @@ invariant-fill g l = record {
 }
 
 abbrev pub decreases-fill : goal.decreases-fill
-decreases-fill g l = l.count - length l.self.held
+decreases-fill g l = l.missing

@@ -6,5 +6,5 @@ pub returns : goal.returns
 returns c =
     let h = c.self.inside in
     let inv = c.self.invariant in
-    held_more h.slots.items h.start h.end c.args.c inv.1 (omega (arith, inv.0, inv.2))
+    held_more h.slots h.start h.end c.args.c inv.1 (omega (arith, inv.0, inv.2))
     ∙ ap (λ (held : List ℕ). held ++ c.args.c ∷ []) c.self.view_is

@@ -6,8 +6,8 @@ pub returns : goal.returns
 returns c =
     let h = c.self.inside in
     let inv = c.self.invariant in
-    let within : h.end ≤ length h.slots.items = omega (arith, inv.0, inv.2) in
-    let len = sym (held_length h.slots.items h.start h.end within) ∙ ap length c.self.view_is in
-    held_in_front h.slots.items c.copy_within.new.self.items h.start h.end c.args.c inv.1 within
-    (omega (arith, inv.0, len, c.requires)) c.copy_within.ensures.items
+    let within : h.end ≤ length h.slots = omega (arith, inv.0, inv.2) in
+    let len = sym (held_length h.slots h.start h.end within) ∙ ap length c.self.view_is in
+    held_in_front h.slots c.copy_within.new.self h.start h.end c.args.c inv.1 within
+    (omega (arith, inv.0, len, c.requires)) c.copy_within.ensures.after
     ∙ ap (λ (held : List ℕ). c.args.c ∷ held) c.self.view_is
