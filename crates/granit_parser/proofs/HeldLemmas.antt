@@ -8,7 +8,6 @@ use Rattle.granit_error.specs.OptionsData.{OptionsData}
 use Rattle.granit_error.specs.Refused.{Refused}
 use Rattle.granit_event.specs.Events.{plain_event}
 use Rattle.granit_event.specs.declared.event.Event.{Event}
-use Rattle.granit_input.specs.Origin as origins
 use Rattle.granit_lexemes.specs.Outcome.{Fault}
 use Rattle.granit_lexemes.specs.PlainEvent.{PlainEvent, EventKind, DocumentStart, DocumentEnd, StreamEnd}
 use Rattle.granit_parser.proofs.ChangeLemmas.{ahead_early, seen_early}

@@ -19,5 +19,6 @@ pub mod ResumedLemmas
 pub mod SendLemmas
 pub mod SourceLemmas
 pub mod StartLaws
+pub mod TakeLemmas
 pub mod TextLemmas
 pub mod WantLemmas

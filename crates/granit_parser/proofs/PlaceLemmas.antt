@@ -1,5 +1,5 @@
 -- Where a parser that nothing was read of stands.
-use Rattle.std.proofs.Common.{◌≡◌, None, Option, inl, subst}
+use Rattle.std.proofs.Common.{◌≡◌, None, inl, subst}
 use Rattle.granit_base.specs.Place.{Unread}
 use Rattle.granit_cursor.specs.Reading.{CameOn}
 use Rattle.granit_lexemes.specs.Here.{Here}

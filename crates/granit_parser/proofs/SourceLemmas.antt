@@ -1,18 +1,18 @@
 -- Why what was looked at stays where the source of an input may fail.
-use Rattle.std.proofs.Common.{◌≡◌, ℕ, false, ◌||◌, Option, Some, None, Ok, Err, is_some, ◌⊎◌, inl, inr, refl, subst}
+use Rattle.std.proofs.Common.{◌≡◌, ℕ, false, ◌||◌, Option, Some, None, Ok, Err, is_some, refl, subst}
 use Rattle.std.proofs.Common.{le_refl}
 use Rattle.std.specs.Prelude.{IfSome}
 use Rattle.granit_base.specs.Place.{Unread}
 use Rattle.granit_cursor.specs.Reading.{Moves, Reading}
 use Rattle.granit_error.specs.Refused.{Refused}
 use Rattle.granit_event.specs.Events.{plain_event}
-use Rattle.granit_input.specs.Origin as origins
 use Rattle.granit_input.specs.Origin.{Origin}
 use Rattle.granit_input.proofs.OriginLemmas.{goes_nowhere}
 use Rattle.granit_parser.specs.Parsing.{EndsBehind, Next, Parsing}
 use Rattle.granit_parser.specs.Recovering.{SeenBy}
 use Rattle.granit_restart.specs.Calls.{Calls}
 use Rattle.granit_sourced.proofs.SourceLemmas.{ends_on, goes_kept, goes_unless, moves_on, next_kept}
+pub use Rattle.granit_sourced.proofs.SourceLemmas.{never_told}
 use Rattle.granit_sourced.specs.Sources.{GoesUnless, IfUnseen, MovesUnless}
 use Rattle.granit_stepper.specs.Refusals.{HoldsRefusal, StandsRefused}
 use Rattle.granit_stepper.specs.Stepping.{StandsIn, Stepping}
@@ -54,11 +54,6 @@ moves_behind unread left origin r s a now after same seen moves first =
     moves_on unread left origin s a now.stepper.scanner.cursor after.stepper.scanner.cursor first
     (subst (λ (x : Next). MovesUnless left origin x now.stepper.scanner.cursor after.stepper.scanner.cursor) same
     (moved left origin r now.peeked now.stepper after.stepper seen moves))
-
--- no source failed
-pub never_told : {A : Type 0} → A ⊎ ⊥ → A
-never_told (inl a) = a
-never_told (inr e) = absurd e
 
 -- ---- where the machine's calls led
 

@@ -1,5 +1,5 @@
 -- Wants of memory of calls that send events one behind the other, and what such calls leave of recovery's answer.
-use Rattle.std.proofs.Common.{◌≡◌, ◌∙◌, ◌≤◌, ◌⊎◌, inl, inr, ℕ, ◌+◌, Bool, true, false, List, [], ◌∷◌, ◌++◌}
+use Rattle.std.proofs.Common.{◌≡◌, ◌∙◌, ◌≤◌, inl, inr, ℕ, ◌+◌, Bool, true, false, List, [], ◌∷◌, ◌++◌}
 use Rattle.std.proofs.Common.{length, Option, Some, None, Result, Ok, Err, refl, ap, subst, sym, arith}
 use Rattle.std.proofs.lemmas.List.{length_push}
 use Rattle.std.specs.Result.{IsErrAnd}
@@ -8,7 +8,7 @@ use Rattle.granit_base.specs.declared.place.Span.{Span}
 use Rattle.granit_error.specs.FaultKind.{NoMemory, wants_memory}
 use Rattle.granit_error.specs.Refused.{Refused}
 use Rattle.granit_event.specs.declared.event.Event.{Event}
-use Rattle.granit_parser.proofs.FirstLemmas.{is_scan, scan_or}
+use Rattle.granit_parser.proofs.FirstLemmas.{scan_or}
 use Rattle.granit_parser.specs.Parsing.{StarvedBy, Starves, notes_answered}
 use Rattle.granit_parser.specs.Receiving.{TakesMost, UnlessRefused, WantsOnly, scanned}
 use Rattle.granit_receivers.proofs.TakingLemmas.{took_more, took_none}

@@ -14,6 +14,7 @@ use Rattle.granit_input.specs.Origin.{Origin}
 pub use Rattle.granit_layers.specs.Turning.{Next}
 use Rattle.granit_lexemes.specs.PlainEvent.{PlainEvent}
 use Rattle.granit_receivers.specs.Kept.{IsKept}
+pub use Rattle.granit_sourced.specs.Gathering.{LeadsTo, none_given, first_given}
 use Rattle.granit_sourced.specs.Giving.{EndsWith, GivesNext}
 use Rattle.granit_sourced.specs.Sources.{IfUnseen, MovesUnless, TellsError, TellsSource}
 use Rattle.granit_sourced.specs.Waiting.{GivesAtOnce}
@@ -21,7 +22,7 @@ use Rattle.granit_stepper.specs.Numbers.{RefusesNumber}
 use Rattle.granit_stepper.specs.Stepping as stepping
 pub use Rattle.granit_stepper.specs.Stepping.{Stepping, StandsIn}
 use Rattle.granit_steps.specs.Levels.{IsStream, BeginsStream}
-use Rattle.granit_steps.specs.Steps.{StepState, next_event}
+use Rattle.granit_steps.specs.Steps.{StepState}
 use Rattle.granit_steps.specs.Told.{EventsTold}
 
 -- a stepper, what was looked at and not taken, the refusal that was given, whether a call gave it for want of memory,
@@ -126,12 +127,6 @@ pub record ParserStepsTo {I : Type 0} (unread : I → Unread → Type 0) (left :
   pub renumbered : q.stepper.renumbered ≡ p.stepper.renumbered
   pub moves : IfUnseen p.peeked (MovesUnless left origin r p.stepper.scanner.cursor q.stepper.scanner.cursor)
   pub onward : GoesOnward unread p.stepper.scanner.cursor q.stepper.scanner.cursor
-
--- one by one these events are given, from a state up to another one
-pub data LeadsTo (o : OptionsData) : StepState → List PlainEvent → StepState → Type 0 where
-  none_given : {m : StepState} → LeadsTo o m [] m
-  first_given : {m next last : StepState} {e : PlainEvent} {es : List PlainEvent}
-      → next_event o m ≡ Ok (Some e, next) → LeadsTo o next es last → LeadsTo o m (e ∷ es) last
 
 -- behind these events fewer anchors are counted than the greatest number of 64 bits
 abbrev pub LeavesNumbers : OptionsData → StepState → List PlainEvent → Type 0

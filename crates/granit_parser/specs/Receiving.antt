@@ -12,7 +12,6 @@ use Rattle.granit_event.specs.declared.event.Event.{Event}
 use Rattle.granit_event.specs.Events.{plain_event, plain_events}
 use Rattle.granit_input.specs.Origin.{Origin}
 use Rattle.granit_lexemes.specs.Here.{Here, mark_of}
-use Rattle.granit_lexemes.specs.Outcome.{Fails}
 use Rattle.granit_lexemes.specs.PlainEvent.{PlainEvent, StreamEnd, event_on}
 use Rattle.granit_parser.specs.Parsing.{Parsing, StandsAt}
 use Rattle.granit_parser.specs.Recovering.{GivesCall, ParserIn, failed_in}
@@ -23,9 +22,9 @@ use Rattle.granit_receivers.specs.declared.error.TryLoadError.{TryLoadError}
 use Rattle.granit_receivers.specs.declared.error.TryLoadError.TheVariants.{Scan, Receiver}
 use Rattle.granit_recovery.specs.Streams.{CallsGive}
 use Rattle.granit_restart.specs.Calls.{Calls}
+use Rattle.granit_sourced.specs.Gathering.{RefusedThere}
 use Rattle.granit_sourced.specs.Going.{FailsAt}
 use Rattle.granit_sourced.specs.Sources.{IsSourceError}
-use Rattle.granit_stepper.specs.Numbers.{RefusesNumber}
 use Rattle.granit_steps.specs.Steps.{StepState, next_event}
 
 -- a receiver took these events at these places, by what it tells of both
@@ -73,9 +72,7 @@ IsPlaceOf unread r mark = (h : Here) → Stands unread r h → mark ≡ mark_of 
 -- a refusal in a state: the machine's, unless memory ran out, or that no number is left for an anchor, or the error of
 -- the source
 abbrev pub RefusalIn : {I : Type 0} → (I → Origin) → OptionsData → StepState → Parsing I → Refused → Type 0
-RefusalIn origin o m p e =
-    (Fails e (next_event o m) ⊎ RefusesNumber p.stepper.renumbered o m e)
-    ⊎ IsSourceError (origin p.stepper.scanner.cursor.input) p.stepper.scanner.cursor.place e
+RefusalIn origin o m p e = RefusedThere origin o m p.stepper e
 
 -- a refusal comes behind events that were sent
 abbrev pub RefusesBehind : {I : Type 0} → (I → Origin) → OptionsData → Bool → StepState

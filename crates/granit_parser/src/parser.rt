@@ -1,25 +1,33 @@
 //! An input that is read into events, one for each call, with a look at the next.
 ghost use mir.Syntax.{named};
-ghost use Rattle.std.specs.Prelude.{◌≡◌, ◌||◌, ◌⊎◌, ℕ, List, [], true, false, None, Option, Some, IfSome, is_some};
+ghost use Rattle.std.specs.Prelude.{◌≡◌, ◌||◌, ◌⊎◌, ◌<◌, ◌^◌, ℕ, List, [], true, false, None, Option, Some, IfSome};
+ghost use Rattle.std.specs.Prelude.{is_some, Err, IfOk, IsOk, Result};
 ghost use Rattle.std.specs.Option.{option_map};
 ghost use Rattle.std.specs.Borrow.{sem};
 ghost use Rattle.std.specs.Io.BufRead.{Rests};
+ghost use Rattle.std.specs.Iterator.{size};
 ghost use Rattle.std.specs.Str.{chars};
+ghost use Rattle.granit_buffered.specs.Fallible.{characters_of, first_error};
+ghost use Rattle.granit_buffered.specs.Feeds.{GivesOnly};
 ghost use Rattle.granit_cursor.specs.Reading.{GoesOnward};
 ghost use Rattle.granit_error.specs.FaultKind.{FaultKind, wants_memory};
 ghost use Rattle.granit_error.specs.Refused.{Refused};
 ghost use Rattle.granit_error.specs.OptionsData.{default_options};
 ghost use Rattle.granit_error.specs.OptionsView.{options_of};
+ghost use Rattle.granit_error.specs.declared.kind.ErrorKind.{ErrorKind};
 ghost use Rattle.granit_input.specs.Strings.{LeftInString};
 ghost use Rattle.granit_lexemes.specs.Here.{Here, first_place};
+ghost use Rattle.granit_lexemes.specs.Outcome.{Fault};
 ghost use Rattle.granit_lexemes.specs.PlainEvent.{PlainEvent};
 ghost use Rattle.granit_parser.specs.Holding.{ParserHolds, WaitsBehind};
 ghost use Rattle.granit_parser.specs.Alone.{EndsAlone};
 ghost use Rattle.granit_parser.specs.Parsing.{EndsBehind, EndsText, EndsTold, IsOver, KeepsGiven, LeadsTo};
 ghost use Rattle.granit_parser.specs.Parsing.{ParserPeeksAs, StandsAt, Starves, notes_answered};
-ghost use Rattle.granit_parser.specs.Recovering.{GivesCall, CallGivesHeld, IsClosed, IsOpen, ParserIn, PeeksIn, SeenBy};
-ghost use Rattle.granit_parser.specs.Recovering.{notes_between, notes_over};
+ghost use Rattle.granit_parser.specs.Recovering.{ForCalls, GivesCall, CallGivesHeld, GivesSeen, IsClosed, IsOpen};
+ghost use Rattle.granit_parser.specs.Recovering.{LookShowsHeld, ParserIn, PeeksIn, SeenBy, ShowsFirst, notes_between};
+ghost use Rattle.granit_parser.specs.Recovering.{notes_over, seen_in};
 ghost use Rattle.granit_parser.specs.Resuming.{Resumed, ResumesCall};
+ghost use Rattle.granit_parser.specs.Streams.{bare_text_start};
 ghost use Rattle.granit_parser.specs.contracts.parser.Parser.{the_row};
 ghost use Rattle.granit_receivers.specs.Kept.{IsKept};
 ghost use Rattle.granit_receivers.specs.Sending.{shown};
@@ -37,17 +45,20 @@ ghost use Rattle.granit_steps.specs.Steps as steps;
 ghost use Rattle.granit_steps.specs.Steps.{StepState};
 ghost use Rattle.granit_steps.specs.Told.{told_from};
 
-use granit_base::Span;
+use granit_base::{NoMemory, Span};
+use granit_buffered::{BufferedInput, FallibleBufferedInput, Source};
 use granit_error::{ErrorKind, Options, ScanError};
 use granit_event::Event;
 use granit_input::{BorrowedInput, Input, StrInput};
 use granit_receivers::kept;
 use granit_recovery::an_open_call_gives_something;
-use granit_sourced::read_event;
+use granit_seen::{Seen, seen_of};
+use granit_sourced::{open_fallible, open_iter, open_str, read_event, step_event};
 use granit_stepper::Stepper;
 use std::alloc::Global;
 use std::iter::FusedIterator;
 use std::marker::Model;
+use std::mem;
 
 /// An input that is read into events, one for each call.
 #[derive(Drop)]
@@ -87,6 +98,23 @@ impl<'input, T: Input> Model for Parser<'input, T> {
     ghost invariant = { λ p. EndsBehind p.peeked p.given p.stepper × StarvedBy p.starved p.given };
 }
 
+// A parser by whose stepper nothing was given. No function, since a call by an input's own type costs the proof of all
+// that it promises.
+macro_rules! before {
+    ($alloc:expr, $stepper:expr) => {
+        Parser {
+            alloc: $alloc,
+            stepper: $stepper,
+            peeked: None,
+            given: None,
+            starved: false,
+            between: false,
+            over: false,
+            answered: false,
+        }
+    };
+}
+
 impl<'input> Parser<'input, StrInput<'input>> {
     /// Before a string, read with the default options.
     pub fn new_from_str(alloc: Global, value: &'input str) -> Parser<'input, StrInput<'input>>
@@ -113,7 +141,75 @@ impl<'input> Parser<'input, StrInput<'input>> {
         ensures unasked { result.answered ≡ false }
         ensures renumbered { result.stepper.renumbered ≡ false }
     {
-        Parser::with_options(alloc, StrInput::new(value), options)
+        before!(alloc, open_str(alloc, value, options))
+    }
+}
+
+impl<'input, T: Source<Item = char>> Parser<'input, BufferedInput<T>> {
+    /// Before the characters of an iterator. Markers tell no byte offset.
+    ///
+    /// # Errors
+    ///
+    /// None: nothing is allocated.
+    pub fn new_from_iter_with_options(
+        alloc: Global,
+        iter: T,
+        options: Options,
+    ) -> Result<Parser<'input, BufferedInput<T>>, NoMemory>
+        requires { size (T.remaining iter) < 2 ^ 63 }
+        ensures start { IfOk result (λ p. (x : List ℕ) → GivesOnly T.next_gives T.remaining iter x
+            → StandsAt ⟦<BufferedInput<T> as Input>⟧.unread p (steps.start_from (bare_text_start x))) }
+        ensures calls { IfOk result (λ p. (x : List ℕ) → GivesOnly T.next_gives T.remaining iter x
+            → ParserIn ⟦<BufferedInput<T> as Input>⟧.unread p (calls_from (bare_text_start x))) }
+        ensures options { IfOk result (λ p. p.stepper.scanner.options ≡ options_of options) }
+        ensures unseen { IfOk result (λ p. p.peeked ≡ None) }
+        ensures unasked { IfOk result (λ p. p.answered ≡ false) }
+        ensures renumbered { IfOk result (λ p. p.stepper.renumbered ≡ false) }
+        ensures memory { IsOk result }
+    {
+        match open_iter(alloc, iter, options) {
+            Ok(stepper) => Ok(before!(alloc, stepper)),
+            Err(error) => Err(error),
+        }
+    }
+}
+
+impl<'input, T: Source<Item = Result<char, ErrorKind>>> Parser<'input, FallibleBufferedInput<T>> {
+    /// Before the characters of an iterator that may fail. Its first error ends them.
+    ///
+    /// # Errors
+    ///
+    /// None: nothing is allocated.
+    pub fn new_from_fallible_iter_with_options(
+        alloc: Global,
+        iter: T,
+        options: Options,
+    ) -> Result<Parser<'input, FallibleBufferedInput<T>>, NoMemory>
+        requires { size (T.remaining iter) < 2 ^ 63 }
+        ensures start { IfOk result (λ p. (items : List (Result ℕ ErrorKind))
+            → GivesOnly T.next_gives T.remaining iter items
+            → StandsAt ⟦<FallibleBufferedInput<T> as Input>⟧.unread p
+            (steps.start_from (bare_text_start (characters_of items)))) }
+        ensures calls { IfOk result (λ p. (items : List (Result ℕ ErrorKind))
+            → GivesOnly T.next_gives T.remaining iter items
+            → ParserIn ⟦<FallibleBufferedInput<T> as Input>⟧.unread p
+            (calls_from (bare_text_start (characters_of items)))) }
+        ensures ends { IfOk result (λ p. (items : List (Result ℕ ErrorKind))
+            → GivesOnly T.next_gives T.remaining iter items
+            → (⟦<FallibleBufferedInput<T> as Input>⟧.origin p.stepper.scanner.cursor.input).ends_with
+            (first_error items)) }
+        ensures fresh { IfOk result (λ p.
+            (⟦<FallibleBufferedInput<T> as Input>⟧.origin p.stepper.scanner.cursor.input).handed_out ≡ false) }
+        ensures options { IfOk result (λ p. p.stepper.scanner.options ≡ options_of options) }
+        ensures unseen { IfOk result (λ p. p.peeked ≡ None) }
+        ensures unasked { IfOk result (λ p. p.answered ≡ false) }
+        ensures renumbered { IfOk result (λ p. p.stepper.renumbered ≡ false) }
+        ensures memory { IsOk result }
+    {
+        match open_fallible(alloc, iter, options) {
+            Ok(stepper) => Ok(before!(alloc, stepper)),
+            Err(error) => Err(error),
+        }
     }
 }
 
@@ -145,16 +241,7 @@ impl<'input, T: BorrowedInput<'input>> Parser<'input, T> {
         ensures renumbered { result.stepper.renumbered ≡ false }
         ensures input { result.stepper.scanner.cursor.input ≡ src }
     {
-        Parser {
-            alloc,
-            stepper: Stepper::new(alloc, src, options),
-            peeked: None,
-            given: None,
-            starved: false,
-            between: false,
-            over: false,
-            answered: false,
-        }
+        before!(alloc, Stepper::new(alloc, src, options))
     }
 
     /// The next event and where it stands; none behind the end of the stream, and behind a refusal.
@@ -252,16 +339,27 @@ impl<'input, T: BorrowedInput<'input>> Parser<'input, T> {
         }
     }
 
-    #[inline(never)]
-    pub(crate) fn note_refusal(&mut self, error: &ScanError)
+    /// Keeps a refusal that `next_event` gives, and marks want of memory, which no other call does.
+    fn note_refusal(&mut self, error: &ScanError)
         requires seen { self.old.peeked ≡ None }
         requires ends { self.old.stepper.failed ≡ true }
         ensures given { (kept : Refused) × (self.new.given ≡ Some kept) × IsKept error.now kept }
         ensures starved { self.new.starved ≡ wants_memory error.now.kind }
         ensures rest { self.new ≡ record self.old { given = self.new.given; starved = self.new.starved } }
     {
-        drop(self.given.replace(kept(self.alloc, error)));
+        self.keep_refusal(error);
         self.starved = error.kind().number() == ErrorKind::NoMemory.number();
+    }
+
+    /// Keeps a refusal that is given.
+    #[inline(never)]
+    pub(crate) fn keep_refusal(&mut self, error: &ScanError)
+        requires seen { self.old.peeked ≡ None }
+        requires ends { self.old.stepper.failed ≡ true }
+        ensures given { (kept : Refused) × (self.new.given ≡ Some kept) × IsKept error.now kept }
+        ensures rest { self.new ≡ record self.old { given = self.new.given } }
+    {
+        drop(self.given.replace(kept(self.alloc, error)));
     }
 
     /// A refusal is forgotten, whether it was given or looked at.
@@ -311,7 +409,7 @@ impl<'input, T: BorrowedInput<'input>> Parser<'input, T> {
         ensures seen { next.new ≡ self.old.peeked }
         ensures rest { self.new ≡ record self.old { peeked = None } }
     {
-        *next = self.peeked.take();
+        drop(mem::replace(next, self.peeked.take()));
     }
 
     /// What the next call of `next_event` gives, which gives it all the same; none behind the end of the stream, and
@@ -336,33 +434,76 @@ impl<'input, T: BorrowedInput<'input>> Parser<'input, T> {
     {
         an_open_call_gives_something();
         if self.peeked.is_none() {
-            let mut next: Option<Result<(Event<'input>, Span), ScanError>> = None;
-            read_event(self.alloc, &mut self.stepper, &mut next);
-            self.put_ahead(next);
+            read_event(self.alloc, &mut self.stepper, &mut self.peeked);
         }
     }
 
-    /// Keeps what was read ahead.
-    pub(crate) fn put_ahead(&mut self, next: Option<Result<(Event<'input>, Span), ScanError>>)
-        requires { EndsBehind next self.old.given self.old.stepper }
-        ensures { self.new ≡ record self.old { peeked = next.entry } }
+    /// Looks at the next event where recovery told of a document and nothing was given since.
+    pub(crate) fn look_first(&mut self)
+        ensures calm { self.old.answered ≡ false → self.new ≡ self.old }
+        ensures closed { (c : Calls) → IsClosed c → ParserIn T.unread self.old c → self.new ≡ self.old }
+        ensures next { ForCalls T.unread self.old (λ c. self.old.answered ≡ true → IsOpen c
+            → ShowsFirst T.unread self.new.peeked self.new c) }
+        ensures holds { (c : Calls) (f : Fault) → ParserHolds T.unread self.old c f → self.old.answered ≡ true
+            → c.over ≡ false → LookShowsHeld T.unread self.new.peeked self.new c f }
+        ensures failed { self.old.stepper.failed ≡ true → self.new ≡ self.old }
+        ensures over { self.old.over ≡ true → self.new ≡ self.old }
+        ensures going { self.new.over ≡ self.old.over }
+        ensures options { self.new.stepper.scanner.options ≡ self.old.stepper.scanner.options }
+        ensures renumbered { self.new.stepper.renumbered ≡ self.old.stepper.renumbered }
+        ensures onward { GoesOnward T.unread self.old.stepper.scanner.cursor self.new.stepper.scanner.cursor }
     {
-        self.peeked = next;
+        an_open_call_gives_something();
+        if self.looks_first() {
+            step_event(self.alloc, &mut self.stepper, &mut self.peeked);
+        }
     }
 
-    /// What was looked at, which stays.
-    pub(crate) fn looked_at(&self) -> &Option<Result<(Event<'input>, Span), ScanError>>
-        ensures { result.now ≡ self.now.peeked }
+    /// Whether recovery told of a document, nothing was given since, and nothing was looked at.
+    fn looks_first(&self) -> bool
+        ensures answered { result ≡ true → (self.now.answered ≡ true) × (self.now.over ≡ false) }
+        ensures seen { result ≡ true → self.now.peeked ≡ None }
+        ensures stays { result ≡ false → self.now.answered ≡ true → self.now.over ≡ false
+            → is_some self.now.peeked ≡ true }
     {
-        &self.peeked
+        self.answered && !self.over && self.peeked.is_none()
     }
 
-    /// What was looked at, which goes.
-    pub(crate) fn take_seen(&mut self) -> Option<Result<(Event<'input>, Span), ScanError>>
-        ensures seen { result ≡ self.old.peeked }
-        ensures rest { self.new ≡ record self.old { peeked = None } }
+    /// What was looked at is forgotten.
+    pub(crate) fn forget_seen(&mut self)
+        ensures { self.new ≡ record self.old { peeked = None } }
     {
-        self.peeked.take()
+        drop(self.peeked.take());
+    }
+
+    /// The refusal that was given, or that was looked at.
+    pub(crate) fn refused(&mut self) -> ScanError
+        ensures given { IfSome self.old.given (λ e. IsKept e result) }
+        ensures seen { self.old.given ≡ None → GivesSeen self.old.peeked (Err result) }
+        ensures rest { self.new ≡ record self.old { peeked = self.new.peeked } }
+    {
+        match &self.given {
+            Some(error) => kept(self.alloc, error),
+            None => match self.peeked.take() {
+                Some(Err(error)) => error,
+                Some(Ok(event)) => {
+                    drop(event);
+                    ScanError::from(NoMemory)
+                }
+                None => ScanError::from(NoMemory),
+            },
+        }
+    }
+
+    /// What was looked at, as far as recovery asks.
+    pub(crate) fn seen(&self) -> Seen
+        ensures { result ≡ seen_in self.now.peeked }
+    {
+        match &self.peeked {
+            None => Seen::Nothing,
+            Some(Ok((event, _))) => seen_of(event),
+            Some(Err(_)) => Seen::Nothing,
+        }
     }
 
     /// What was looked at.
@@ -422,6 +563,11 @@ impl<'input, T: BorrowedInput<'input>> Iterator for Parser<'input, T> {
 
     fn next(&mut self) -> Option<Result<(Event<'input>, Span), ScanError>> {
         self.next_event()
+    }
+
+    // As the trait has it: written out, that costs less to prove.
+    fn size_hint(&self) -> (usize, Option<usize>) {
+        (0, None)
     }
 }
 

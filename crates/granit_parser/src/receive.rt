@@ -235,7 +235,7 @@ impl<'input, T: BorrowedInput<'input>> Parser<'input, T> {
         ensures same { self.new.stepper.scanner ≡ self.old.stepper.scanner }
         ensures renumbered { self.new.stepper.renumbered ≡ self.old.stepper.renumbered }
     {
-        drop(self.take_seen());
+        self.forget_seen();
         self.stepper.stop();
         drop(self.given.replace(ScanError::from(NoMemory)));
         ScanError::from(NoMemory)

@@ -8,12 +8,12 @@ ghost use Rattle.granit_lexemes.specs.Outcome.{Fault};
 ghost use Rattle.granit_parser.specs.Holding.{FaultLacksNumber, ParserHolds, WaitsBehind, held_behind, held_room};
 ghost use Rattle.granit_parser.specs.Holding.{stays_seen};
 ghost use Rattle.granit_parser.specs.Recovering.{AsksBy, Ends, EndsHeld, Follows, ForCalls, GaveUp, GivesSeen};
-ghost use Rattle.granit_parser.specs.Recovering.{IsClosed, IsNoted, IsOpen, LookShowsHeld, LooksNoMore, ParserIn};
+ghost use Rattle.granit_parser.specs.Recovering.{IsNoted, IsOpen, LooksNoMore};
 ghost use Rattle.granit_parser.specs.Recovering.{Proceeds, ProceedsHeld, ProceedsHeldNext, ProceedsNext, SeenBy};
-ghost use Rattle.granit_parser.specs.Recovering.{ShowsFirst, SkipsToAsk, SkipsWaiting, between_behind, over_behind};
+ghost use Rattle.granit_parser.specs.Recovering.{SkipsToAsk, SkipsWaiting, between_behind, over_behind};
 ghost use Rattle.granit_parser.specs.Recovering.{seen_in, stays_by};
 ghost use Rattle.granit_error.specs.Refused.{UnlessMemory};
-ghost use Rattle.granit_receivers.specs.Kept.{GivesAgain, IsKept};
+ghost use Rattle.granit_receivers.specs.Kept.{GivesAgain};
 ghost use Rattle.granit_seen.specs.Seeing.{seen_starts_document};
 ghost use Rattle.granit_seen.specs.declared.seen.Seen.TheVariants as seens;
 ghost use Rattle.granit_restart.specs.Calls.{Calls};
@@ -22,17 +22,14 @@ ghost use Rattle.granit_stepper.specs.Holding.{held_follows};
 ghost use Rattle.granit_steps.specs.Steps.{StepState};
 
 use crate::parser::Parser;
-use granit_base::{NoMemory, Span};
 use granit_error::ScanError;
 use granit_event::Event;
 use granit_input::BorrowedInput;
-use granit_receivers::kept;
 use granit_recovery::{
-    a_comment_takes_room_where_recovery_asks, a_look_tells_where_recovery_asks,
-    an_open_call_gives_something, calls_go_by_turns, nothing_changes_behind_the_end,
+    a_comment_takes_room_where_recovery_asks, a_look_tells_where_recovery_asks, calls_go_by_turns,
+    nothing_changes_behind_the_end,
 };
-use granit_seen::{Seen, ends, ends_stream, seen_of, starts, tells};
-use granit_sourced::step_event;
+use granit_seen::{Seen, ends, ends_stream, starts, tells};
 
 impl<'input, T: BorrowedInput<'input>> Parser<'input, T> {
     /// Drops a document, or what is left of the open one, and tells whether another is there: behind a refusal that was
@@ -84,39 +81,6 @@ impl<'input, T: BorrowedInput<'input>> Parser<'input, T> {
         }
     }
 
-    /// Looks at the next event where recovery told of a document and nothing was given since.
-    fn look_first(&mut self)
-        ensures calm { self.old.answered ≡ false → self.new ≡ self.old }
-        ensures closed { (c : Calls) → IsClosed c → ParserIn T.unread self.old c → self.new ≡ self.old }
-        ensures next { ForCalls T.unread self.old (λ c. self.old.answered ≡ true → IsOpen c
-            → ShowsFirst T.unread self.new.peeked self.new c) }
-        ensures holds { (c : Calls) (f : Fault) → ParserHolds T.unread self.old c f → self.old.answered ≡ true
-            → c.over ≡ false → LookShowsHeld T.unread self.new.peeked self.new c f }
-        ensures failed { self.old.stepper.failed ≡ true → self.new ≡ self.old }
-        ensures over { self.old.over ≡ true → self.new ≡ self.old }
-        ensures going { self.new.over ≡ self.old.over }
-        ensures options { self.new.stepper.scanner.options ≡ self.old.stepper.scanner.options }
-        ensures renumbered { self.new.stepper.renumbered ≡ self.old.stepper.renumbered }
-        ensures onward { GoesOnward T.unread self.old.stepper.scanner.cursor self.new.stepper.scanner.cursor }
-    {
-        an_open_call_gives_something();
-        if self.looks_first() {
-            let mut next: Option<Result<(Event<'input>, Span), ScanError>> = None;
-            step_event(self.alloc, &mut self.stepper, &mut next);
-            self.put_ahead(next);
-        }
-    }
-
-    /// Whether recovery told of a document, nothing was given since, and nothing was looked at.
-    fn looks_first(&self) -> bool
-        ensures answered { result ≡ true → (self.now.answered ≡ true) × (self.now.over ≡ false) }
-        ensures seen { result ≡ true → self.now.peeked ≡ None }
-        ensures stays { result ≡ false → self.now.answered ≡ true → self.now.over ≡ false
-            → is_some self.now.peeked ≡ true }
-    {
-        self.answered && !self.over && self.looked_at().is_none()
-    }
-
     /// Nothing more is given, and each further call of recovery answers this again.
     fn give_up(&mut self, error: &ScanError)
         ensures gone { GaveUp self.new error.now }
@@ -124,9 +88,9 @@ impl<'input, T: BorrowedInput<'input>> Parser<'input, T> {
         ensures renumbered { self.new.stepper.renumbered ≡ self.old.stepper.renumbered }
         ensures over { self.new.over ≡ self.old.over }
     {
-        drop(self.take_seen());
+        self.forget_seen();
         self.stepper.give_up();
-        drop(self.given.replace(kept(self.alloc, error)));
+        self.keep_refusal(error);
     }
 
     fn proceed(&mut self) -> Result<bool, ScanError>
@@ -194,25 +158,6 @@ impl<'input, T: BorrowedInput<'input>> Parser<'input, T> {
         }
     }
 
-    /// The refusal that was given, or that was looked at.
-    fn refused(&mut self) -> ScanError
-        ensures given { IfSome self.old.given (λ e. IsKept e result) }
-        ensures seen { self.old.given ≡ None → GivesSeen self.old.peeked (Err result) }
-        ensures rest { self.new ≡ record self.old { peeked = self.new.peeked } }
-    {
-        match &self.given {
-            Some(error) => kept(self.alloc, error),
-            None => match self.take_seen() {
-                Some(Err(error)) => error,
-                Some(Ok(event)) => {
-                    drop(event);
-                    ScanError::from(NoMemory)
-                }
-                None => ScanError::from(NoMemory),
-            },
-        }
-    }
-
     /// Drops what is to be dropped. Directly behind a document what was looked at stays, but for the start of another.
     fn skip(&mut self) -> Result<(), ScanError>
         ensures known { ForCalls T.unread self.old (λ c. c.over ≡ false → c.refusal ≡ None
@@ -243,7 +188,7 @@ impl<'input, T: BorrowedInput<'input>> Parser<'input, T> {
         if self.stays(seen) {
             return Ok(());
         }
-        drop(self.take_seen());
+        self.forget_seen();
         if ends(seen) {
             return Ok(());
         }
@@ -276,16 +221,6 @@ impl<'input, T: BorrowedInput<'input>> Parser<'input, T> {
         }
         let room = self.stepper.max_comments();
         self.stepper.document_follows(self.alloc, room)
-    }
-
-    fn seen(&self) -> Seen
-        ensures { result ≡ seen_in self.now.peeked }
-    {
-        match self.looked_at() {
-            None => Seen::Nothing,
-            Some(Ok((event, _))) => seen_of(event),
-            Some(Err(_)) => Seen::Nothing,
-        }
     }
 
     /// Notes where an event that is given leads.

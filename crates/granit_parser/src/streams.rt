@@ -1,9 +1,8 @@
 //! Iterators of characters that are read into events.
-ghost use Rattle.std.specs.Prelude.{◌≡◌, ℕ, ◌<◌, ◌^◌, false, List, None, IfOk};
+ghost use Rattle.std.specs.Prelude.{◌≡◌, ℕ, ◌<◌, ◌^◌, false, List, None, IfOk, IsOk};
 ghost use Rattle.std.specs.Iterator.{size};
 ghost use Rattle.granit_buffered.specs.Feeds.{GivesOnly};
 ghost use Rattle.granit_error.specs.OptionsData.{default_options};
-ghost use Rattle.granit_error.specs.OptionsView.{options_of};
 ghost use Rattle.granit_parser.specs.Parsing.{StandsAt};
 ghost use Rattle.granit_parser.specs.Recovering.{ParserIn};
 ghost use Rattle.granit_parser.specs.Streams.{bare_text_start};
@@ -22,7 +21,7 @@ impl<'input, T: Source<Item = char>> Parser<'input, BufferedInput<T>> {
     ///
     /// # Errors
     ///
-    /// `NoMemory` alone.
+    /// None: nothing is allocated.
     pub fn new_from_iter(
         alloc: Global,
         iter: T,
@@ -36,31 +35,8 @@ impl<'input, T: Source<Item = char>> Parser<'input, BufferedInput<T>> {
         ensures unseen { IfOk result (λ p. p.peeked ≡ None) }
         ensures unasked { IfOk result (λ p. p.answered ≡ false) }
         ensures renumbered { IfOk result (λ p. p.stepper.renumbered ≡ false) }
+        ensures memory { IsOk result }
     {
         Parser::new_from_iter_with_options(alloc, iter, Options::default())
-    }
-
-    /// Before the characters of an iterator. Markers tell no byte offset.
-    ///
-    /// # Errors
-    ///
-    /// `NoMemory` alone.
-    pub fn new_from_iter_with_options(
-        alloc: Global,
-        iter: T,
-        options: Options,
-    ) -> Result<Parser<'input, BufferedInput<T>>, NoMemory>
-        requires { size (T.remaining iter) < 2 ^ 63 }
-        ensures start { IfOk result (λ p. (x : List ℕ) → GivesOnly T.next_gives T.remaining iter x
-            → StandsAt ⟦<BufferedInput<T> as Input>⟧.unread p (steps.start_from (bare_text_start x))) }
-        ensures calls { IfOk result (λ p. (x : List ℕ) → GivesOnly T.next_gives T.remaining iter x
-            → ParserIn ⟦<BufferedInput<T> as Input>⟧.unread p (calls_from (bare_text_start x))) }
-        ensures options { IfOk result (λ p. p.stepper.scanner.options ≡ options_of options) }
-        ensures unseen { IfOk result (λ p. p.peeked ≡ None) }
-        ensures unasked { IfOk result (λ p. p.answered ≡ false) }
-        ensures renumbered { IfOk result (λ p. p.stepper.renumbered ≡ false) }
-    {
-        let input = BufferedInput::new(alloc, iter)?;
-        Ok(Parser::with_options(alloc, input, options))
     }
 }

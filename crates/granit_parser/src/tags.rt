@@ -18,7 +18,7 @@ impl<'input, T: BorrowedInput<'input>> Parser<'input, T> {
     /// The contract: where the machine's calls led, they go on from there under that option (`there`), also where
     /// turns were made early (`calls`). Where such a turn was refused, that waits still (`held`, `holds`): `next_event`
     /// tells what comes then. Behind a fault that was given recovery goes on under that option (`closed`).
-    pub fn keep_tags(self, value: bool) -> Parser<'input, T>
+    pub fn keep_tags(mut self, value: bool) -> Parser<'input, T>
         ensures set { result ≡ parser_keeping value self.entry }
         ensures known { (m : StepState) → self.entry.peeked ≡ None → StandsAt T.unread self.entry m
             → StandsAt T.unread result m }
@@ -35,8 +35,7 @@ impl<'input, T: BorrowedInput<'input>> Parser<'input, T> {
         ensures closed { (c : Calls) → IsClosed c → ParserIn T.unread self.entry c → ParserIn T.unread result c }
     {
         calls_go_by_turns();
-        let mut parser = self;
-        parser.stepper.set_keep_tags(value);
-        parser
+        self.stepper.set_keep_tags(value);
+        self
     }
 }

@@ -299,3 +299,8 @@ module _ {I : Type 0} (unread : I → Unread → Type 0) (origin : I → Origin)
   reads_by (Some e) r c is placed told on reads = inr (source_tells (origin old.scanner.cursor.input)
       (origin mid.scanner.cursor.input) (origin new.scanner.cursor.input) goes gave e new.scanner.cursor.place is
       placed.0 placed.1 told)
+
+-- no source failed
+pub never_told : {A : Type 0} → A ⊎ ⊥ → A
+never_told (inl a) = a
+never_told (inr e) = absurd e

@@ -2,7 +2,9 @@
 #![tactic(auto)]
 
 mod gathering;
+mod opening;
 mod reading;
 
-pub use gathering::more_events;
+pub use gathering::{gather_all, gather_batch};
+pub use opening::{open_fallible, open_iter, open_str};
 pub use reading::{read_event, step_event};

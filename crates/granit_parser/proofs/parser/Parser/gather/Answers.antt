@@ -8,9 +8,10 @@ use Rattle.granit_parser.proofs.GatherLemmas.{gathered_first, none_numbered, wen
 use Rattle.granit_parser.proofs.SendLemmas.{TookOr}
 use Rattle.granit_parser.proofs.SourceLemmas.{moves_seen, never_told}
 use Rattle.granit_parser.proofs.parser.Parser.gather.Goals as goal
-use Rattle.granit_parser.specs.Gathering.{Gathered, GathersAll}
+use Rattle.granit_parser.specs.Gathering.{GathersAll}
 use Rattle.granit_parser.specs.Parsing.{KeepsGiven, none_given}
 use Rattle.granit_sourced.proofs.AtOnceLemmas.{ended_given, if_unseen}
+use Rattle.granit_sourced.specs.Gathering.{Gathered}
 use Rattle.granit_sourced.specs.Sources.{TellsSource}
 
 pub returns-in-None-clause-known : goal.returns-in-None-clause-known

@@ -1,49 +1,40 @@
-use Rattle.std.proofs.Common.{[], ◌∷◌, inl, subst, sym, ◌∙◌}
-use Rattle.granit_error.specs.OptionsData.{OptionsData}
-use Rattle.granit_event.specs.Events.{plain_event, plain_events}
-use Rattle.granit_input.proofs.OriginLemmas.{goes_nowhere}
-use Rattle.granit_parser.proofs.GatherLemmas.{waits_first}
-use Rattle.granit_parser.specs.Gathering.{Gathered, GathersAll, WaitsGathered}
-use Rattle.granit_parser.specs.Parsing.{Parsing, none_given}
+use Rattle.std.proofs.Common.{[], ◌∷◌, sym, subst, ◌∙◌, ap}
+use Rattle.granit_event.specs.Events.{plain_event}
+use Rattle.granit_parser.specs.Parsing.{Parsing}
 use Rattle.granit_parser.proofs.parser.Parser.gather_behind.Goals as goal
-use Rattle.granit_sourced.proofs.SourceLemmas.{goes_giving}
-use Rattle.granit_stepper.proofs.KeepLemmas.{same_options}
+use Rattle.granit_sourced.specs.Gathering.{Gathered}
 
 pub returns-in-Ok-clause-known : goal.returns-in-Ok-clause-known
 returns-in-Ok-clause-known g c = λ m before.
-    let unread = g.T.Input.unread in
-    let first = plain_event c.args.first ∷ [] in
-    let old = c.self.inside.stepper in
-    let mid = c.put_first.new.self in
-    let put = c.in-Ok.ensures in
-    rw (← c.self.view_is) (subst (λ (p : OptionsData). WaitsGathered unread p m mid
-    → GathersAll g.T.Input.origin p m c.gather_rest.result (λ v. plain_events v.items) c.gather_rest.new.self)
-    (same_options _ _ put.scanner) (c.gather_rest.ensures.known m)
-    (waits_first unread old.scanner.options m old mid (plain_event c.args.first) put.first put.known
-    (subst (λ (p : Parsing _). Gathered unread p.stepper.scanner.options m first p.stepper) (sym c.self.view_is)
-    before)))
-
-pub returns-in-Ok-clause-goes : goal.returns-in-Ok-clause-goes
-returns-in-Ok-clause-goes g c = rw (← c.self.view_is, ← c.in-Ok.ensures.scanner) c.gather_rest.ensures.goes
-
-pub returns-in-Ok-clause-onward : goal.returns-in-Ok-clause-onward
-returns-in-Ok-clause-onward g c = rw (← c.self.view_is, ← c.in-Ok.ensures.scanner) c.gather_rest.ensures.onward
-
-pub returns-in-Ok-clause-renumbered : goal.returns-in-Ok-clause-renumbered
-returns-in-Ok-clause-renumbered g c =
-    rw (← c.self.view_is) (c.gather_rest.ensures.renumbered ∙ c.in-Ok.ensures.renumbered)
+    rw (← c.self.view_is) (c.in-Ok.ensures.known m
+    (subst (λ (p : Parsing _). Gathered g.T.Input.unread p.stepper.scanner.options m (plain_event c.args.first ∷ [])
+    p.stepper) (sym c.self.view_is) before))
 
 pub returns-in-Err-clause-known : goal.returns-in-Err-clause-known
 returns-in-Err-clause-known g c = λ m before.
-    ([], m, none_given, inl (inl (λ other. absurd (other c.run_out.ensures.kind))))
-
-pub returns-in-Err-clause-goes : goal.returns-in-Err-clause-goes
-returns-in-Err-clause-goes g c = rw (← c.self.view_is, c.run_out.ensures.same, c.in-Err.ensures.scanner)
-    (goes_giving _ _ (goes_nowhere _))
-
-pub returns-in-Err-clause-onward : goal.returns-in-Err-clause-onward
-returns-in-Err-clause-onward g c =
-    rw (← c.self.view_is, c.run_out.ensures.same, c.in-Err.ensures.scanner) (λ start before. before)
+    rw (← c.self.view_is, c.keep_refusal.ensures.rest) (c.in-Err.ensures.known m
+    (subst (λ (p : Parsing _). Gathered g.T.Input.unread p.stepper.scanner.options m (plain_event c.args.first ∷ [])
+    p.stepper) (sym c.self.view_is) before))
 
 pub returns-in-Err-clause-given : goal.returns-in-Err-clause-given
-returns-in-Err-clause-given g c = let kept = c.run_out.ensures.given in (kept.0, kept.1)
+returns-in-Err-clause-given g c = let kept = c.keep_refusal.ensures.given in (kept.0, kept.1)
+
+pub returns-in-Ok-clause-renumbered : goal.returns-in-Ok-clause-renumbered
+returns-in-Ok-clause-renumbered g c =
+    c.in-Ok.ensures.renumbered ∙ ap (λ (p : Parsing _). p.stepper.renumbered) c.self.view_is
+
+pub returns-in-Err-clause-renumbered : goal.returns-in-Err-clause-renumbered
+returns-in-Err-clause-renumbered g c = ap (λ (p : Parsing _). p.stepper.renumbered) c.keep_refusal.ensures.rest
+    ∙ c.in-Err.ensures.renumbered ∙ ap (λ (p : Parsing _). p.stepper.renumbered) c.self.view_is
+
+pub returns-in-Ok-clause-goes : goal.returns-in-Ok-clause-goes
+returns-in-Ok-clause-goes g c = rw (← c.self.view_is) c.in-Ok.ensures.goes
+
+pub returns-in-Err-clause-goes : goal.returns-in-Err-clause-goes
+returns-in-Err-clause-goes g c = rw (← c.self.view_is, c.keep_refusal.ensures.rest) c.in-Err.ensures.goes
+
+pub returns-in-Ok-clause-onward : goal.returns-in-Ok-clause-onward
+returns-in-Ok-clause-onward g c = rw (← c.self.view_is) c.in-Ok.ensures.onward
+
+pub returns-in-Err-clause-onward : goal.returns-in-Err-clause-onward
+returns-in-Err-clause-onward g c = rw (← c.self.view_is, c.keep_refusal.ensures.rest) c.in-Err.ensures.onward

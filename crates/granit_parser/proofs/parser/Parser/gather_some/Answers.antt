@@ -1,14 +1,11 @@
-use Rattle.std.proofs.Common.{true, false, [], Ok, sym, subst, ◌∙◌, inl, true≢false}
-use Rattle.granit_error.specs.OptionsData.{OptionsData}
+use Rattle.std.proofs.Common.{Ok, sym, subst, ◌∙◌, true≢false, ap}
 use Rattle.granit_event.specs.Events.{plain_events}
-use Rattle.granit_input.proofs.OriginLemmas.{goes_nowhere}
-use Rattle.granit_parser.proofs.GatherLemmas.{gone_err, gone_ok, waits_now}
+use Rattle.granit_parser.proofs.GatherLemmas.{gathered_some}
 use Rattle.granit_parser.proofs.parser.Parser.gather_some.Goals as goal
-use Rattle.granit_parser.specs.Gathering.{GathersSome, WaitsGathered}
-use Rattle.granit_parser.specs.Parsing.{Next, Parsing, StandsBefore, none_given}
-use Rattle.granit_sourced.proofs.SourceLemmas.{goes_giving}
-use Rattle.granit_stepper.proofs.KeepLemmas.{same_options}
-use Rattle.granit_stepper.specs.Stepping.{StandsIn}
+use Rattle.granit_parser.specs.Gathering.{GathersSome}
+use Rattle.granit_parser.specs.Parsing.{Next, Parsing, StandsBefore}
+use Rattle.granit_sourced.specs.Gathering.{NextGathered}
+use Rattle.granit_stepper.specs.Stepping.{StandsIn, Stepping}
 
 pub returns-then-has_failed-clause-known : goal.returns-then-has_failed-clause-known
 returns-then-has_failed-clause-known g c = λ m at.
@@ -18,42 +15,64 @@ returns-then-has_failed-clause-known g c = λ m at.
 pub returns-in-Ok-clause-known : goal.returns-in-Ok-clause-known
 returns-in-Ok-clause-known g c = λ m at.
     let unread = g.T.Input.unread in
-    let old = c.self.inside.stepper in
-    let mid = c.wait_in.new.self in
-    let put = c.in-Ok.ensures in
     let stands = subst (λ (r : Next). StandsBefore unread r c.args.self.now.stepper m) c.requires.seen at in
-    rw (← c.self.view_is) (subst (λ (p : OptionsData). WaitsGathered unread p m mid
-    → GathersSome unread g.T.Input.origin p m c.fill_batch.result (plain_events c.fill_batch.new.batch.items)
-    c.fill_batch.new.self) (same_options _ _ put.scanner) (c.fill_batch.ensures.known m)
-    (waits_now unread old.scanner.options m mid put.first
-    (put.known m (subst (λ (p : Parsing _). StandsIn unread p.stepper m) (sym c.self.view_is) stands))))
+    let es = plain_events c.gather_batch.new.batch.items in
+    let o = c.self.inside.stepper.scanner.options in
+    subst (λ (p : Parsing _). GathersSome unread g.T.Input.origin p.stepper.scanner.options m (Ok c.in-Ok.more) es
+    c.note_batch.new.self) c.self.view_is (gathered_some unread o m g.T.Input.origin c.note_batch.new.self
+    (Ok c.in-Ok.more) es
+    (ap (λ (p : Parsing _). p.peeked) c.note_batch.ensures ∙ ap (λ (p : Parsing _). p.peeked) c.self.view_is
+    ∙ c.requires.seen)
+    (subst (λ (s : Stepping _). NextGathered unread g.T.Input.origin o m (Ok c.in-Ok.more) es s)
+    (sym (ap (λ (p : Parsing _). p.stepper) c.note_batch.ensures)) (c.in-Ok.ensures.known m
+    (subst (λ (p : Parsing _). StandsIn unread p.stepper m) (sym c.self.view_is) stands))))
+
+pub returns-in-Ok-clause-over : goal.returns-in-Ok-clause-over
+returns-in-Ok-clause-over g c = λ over.
+    absurd (true≢false (sym over.failed ∙ sym c.has_failed.ensures ∙ c.if-has_failed.false))
+
+pub returns-in-Err-clause-over : goal.returns-in-Err-clause-over
+returns-in-Err-clause-over g c = λ over.
+    absurd (true≢false (sym over.failed ∙ sym c.has_failed.ensures ∙ c.if-has_failed.false))
+
+pub returns-in-Ok-clause-seen : goal.returns-in-Ok-clause-seen
+returns-in-Ok-clause-seen g c = ap (λ (p : Parsing _). p.peeked) c.note_batch.ensures
+    ∙ ap (λ (p : Parsing _). p.peeked) c.self.view_is ∙ c.requires.seen
+
+pub returns-in-Ok-clause-options : goal.returns-in-Ok-clause-options
+returns-in-Ok-clause-options g c = ap (λ (p : Parsing _). p.stepper.scanner.options) c.note_batch.ensures
+    ∙ c.in-Ok.ensures.options ∙ ap (λ (p : Parsing _). p.stepper.scanner.options) c.self.view_is
+
+pub returns-in-Ok-clause-renumbered : goal.returns-in-Ok-clause-renumbered
+returns-in-Ok-clause-renumbered g c = ap (λ (p : Parsing _). p.stepper.renumbered) c.note_batch.ensures
+    ∙ c.in-Ok.ensures.renumbered ∙ ap (λ (p : Parsing _). p.stepper.renumbered) c.self.view_is
+
+pub returns-in-Err-clause-options : goal.returns-in-Err-clause-options
+returns-in-Err-clause-options g c = ap (λ (p : Parsing _). p.stepper.scanner.options) c.keep_refusal.ensures.rest
+    ∙ c.in-Err.ensures.options ∙ ap (λ (p : Parsing _). p.stepper.scanner.options) c.self.view_is
+
+pub returns-in-Err-clause-renumbered : goal.returns-in-Err-clause-renumbered
+returns-in-Err-clause-renumbered g c = ap (λ (p : Parsing _). p.stepper.renumbered) c.keep_refusal.ensures.rest
+    ∙ c.in-Err.ensures.renumbered ∙ ap (λ (p : Parsing _). p.stepper.renumbered) c.self.view_is
+
+pub returns-in-Ok-clause-goes : goal.returns-in-Ok-clause-goes
+returns-in-Ok-clause-goes g c = rw (← c.self.view_is, c.note_batch.ensures) c.in-Ok.ensures.goes
+
+pub returns-in-Err-clause-failed : goal.returns-in-Err-clause-failed
+returns-in-Err-clause-failed g c = rw (← c.self.view_is, c.keep_refusal.ensures.rest) c.in-Err.ensures.goes
+
+pub returns-in-Ok-clause-onward : goal.returns-in-Ok-clause-onward
+returns-in-Ok-clause-onward g c = rw (← c.self.view_is, c.note_batch.ensures) c.in-Ok.ensures.onward
+
+pub returns-in-Err-clause-onward : goal.returns-in-Err-clause-onward
+returns-in-Err-clause-onward g c = rw (← c.self.view_is, c.keep_refusal.ensures.rest) c.in-Err.ensures.onward
 
 pub returns-in-Err-clause-known : goal.returns-in-Err-clause-known
 returns-in-Err-clause-known g c = λ m at.
-    ([], m, none_given, inl (inl (λ other. absurd (other c.run_out.ensures.kind))))
-
-pub returns-in-Ok-clause-goes : goal.returns-in-Ok-clause-goes
-returns-in-Ok-clause-goes g c = rw (← c.self.view_is, ← c.in-Ok.ensures.scanner)
-    (gone_ok c.fill_batch.result _ _ c.fill_batch.ensures.goes)
-
-pub returns-in-Ok-clause-failed : goal.returns-in-Ok-clause-failed
-returns-in-Ok-clause-failed g c = rw (← c.self.view_is, ← c.in-Ok.ensures.scanner)
-    (gone_err c.fill_batch.result _ _ c.fill_batch.ensures.goes)
-
-pub returns-in-Ok-clause-onward : goal.returns-in-Ok-clause-onward
-returns-in-Ok-clause-onward g c = rw (← c.self.view_is, ← c.in-Ok.ensures.scanner) c.fill_batch.ensures.onward
-
-pub returns-in-Ok-clause-renumbered : goal.returns-in-Ok-clause-renumbered
-returns-in-Ok-clause-renumbered g c =
-    rw (← c.self.view_is) (c.fill_batch.ensures.renumbered ∙ c.in-Ok.ensures.renumbered)
-
-pub returns-in-Err-clause-failed : goal.returns-in-Err-clause-failed
-returns-in-Err-clause-failed g c = rw (← c.self.view_is, c.run_out.ensures.same, c.in-Err.ensures.scanner)
-    (goes_giving _ _ (goes_nowhere _))
-
-pub returns-in-Err-clause-onward : goal.returns-in-Err-clause-onward
-returns-in-Err-clause-onward g c =
-    rw (← c.self.view_is, c.run_out.ensures.same, c.in-Err.ensures.scanner) (λ start before. before)
+    let unread = g.T.Input.unread in
+    let stands = subst (λ (r : Next). StandsBefore unread r c.args.self.now.stepper m) c.requires.seen at in
+    rw (← c.self.view_is, c.keep_refusal.ensures.rest) (c.in-Err.ensures.known m
+    (subst (λ (p : Parsing _). StandsIn unread p.stepper m) (sym c.self.view_is) stands))
 
 pub returns-in-Err-clause-given : goal.returns-in-Err-clause-given
-returns-in-Err-clause-given g c = let kept = c.run_out.ensures.given in (kept.0, kept.1)
+returns-in-Err-clause-given g c = let kept = c.keep_refusal.ensures.given in (kept.0, kept.1)

@@ -12,9 +12,9 @@ use Rattle.granit_parser.proofs.parser.Parser.keep_tags.Goals as goal
 pub returns-clause-known : goal.returns-clause-known
 returns-clause-known g c = λ m none at.
     let unread = g.T.Input.unread in
-    let seen = ap (λ (p : Parsing _). p.peeked) c.parser.view_is ∙ none in
+    let seen = ap (λ (p : Parsing _). p.peeked) c.self.view_is ∙ none in
     let left = c.set_keep_tags.ensures
-    ∙ ap (λ (p : Parsing _). keeping c.args.value p.stepper) c.parser.view_is in
+    ∙ ap (λ (p : Parsing _). keeping c.args.value p.stepper) c.self.view_is in
     let before = subst (λ (next : Next). StandsBefore unread next c.args.self.stepper m) none at in
     subst (λ (next : Next). StandsBefore unread next c.set_keep_tags.new.self m) (sym seen)
     (subst (λ (s : Stepping _). StandsIn unread s m) (sym left)
@@ -24,16 +24,16 @@ pub returns-clause-calls : goal.returns-clause-calls
 returns-clause-calls g c = λ calls reached opened none at.
     let unread = g.T.Input.unread in
     let p = c.args.self in
-    let view = c.parser.view_is in
+    let view = c.self.view_is in
     let left = c.set_keep_tags.ensures ∙ ap (λ (p : Parsing _). keeping c.args.value p.stepper) view in
     changed_in unread unchanged p (record {
       stepper = c.set_keep_tags.new.self;
-      peeked = c.parser.inside.peeked;
-      given = c.parser.inside.given;
-      starved = c.parser.inside.starved;
-      between = c.parser.inside.between;
-      over = c.parser.inside.over;
-      answered = c.parser.inside.answered;
+      peeked = c.self.inside.peeked;
+      given = c.self.inside.given;
+      starved = c.self.inside.starved;
+      between = c.self.inside.between;
+      over = c.self.inside.over;
+      answered = c.self.inside.answered;
     }) (λ m at. subst (λ (s : Stepping _). StandsIn unread s m) (sym left)
     (stands_alike unread c.args.value p.stepper m at))
     (λ es m. refl) (ap (λ (p : Parsing _). p.peeked) view) (ap (λ (s : Stepping _). s.first) left)
@@ -44,16 +44,16 @@ pub returns-clause-there : goal.returns-clause-there
 returns-clause-there g c = λ calls opened unseen stands at.
     let unread = g.T.Input.unread in
     let p = c.args.self in
-    let view = c.parser.view_is in
+    let view = c.self.view_is in
     let left = c.set_keep_tags.ensures ∙ ap (λ (p : Parsing _). keeping c.args.value p.stepper) view in
     changed_there unread unchanged p (record {
       stepper = c.set_keep_tags.new.self;
-      peeked = c.parser.inside.peeked;
-      given = c.parser.inside.given;
-      starved = c.parser.inside.starved;
-      between = c.parser.inside.between;
-      over = c.parser.inside.over;
-      answered = c.parser.inside.answered;
+      peeked = c.self.inside.peeked;
+      given = c.self.inside.given;
+      starved = c.self.inside.starved;
+      between = c.self.inside.between;
+      over = c.self.inside.over;
+      answered = c.self.inside.answered;
     }) (λ m at. subst (λ (s : Stepping _). StandsIn unread s m) (sym left)
     (stands_alike unread c.args.value p.stepper m at))
     (λ es m. refl) (ap (λ (p : Parsing _). p.peeked) view) (ap (λ (s : Stepping _). s.first) left)
@@ -63,16 +63,16 @@ pub returns-clause-closed : goal.returns-clause-closed
 returns-clause-closed g c = λ calls closed at.
     let unread = g.T.Input.unread in
     let p = c.args.self in
-    let view = c.parser.view_is in
+    let view = c.self.view_is in
     let left = c.set_keep_tags.ensures ∙ ap (λ (p : Parsing _). keeping c.args.value p.stepper) view in
     closed_changed unread unchanged p (record {
       stepper = c.set_keep_tags.new.self;
-      peeked = c.parser.inside.peeked;
-      given = c.parser.inside.given;
-      starved = c.parser.inside.starved;
-      between = c.parser.inside.between;
-      over = c.parser.inside.over;
-      answered = c.parser.inside.answered;
+      peeked = c.self.inside.peeked;
+      given = c.self.inside.given;
+      starved = c.self.inside.starved;
+      between = c.self.inside.between;
+      over = c.self.inside.over;
+      answered = c.self.inside.answered;
     }) (λ m e refused. subst (λ (s : Stepping _). StandsRefused unread s m e) (sym left)
     (refused_alike unread c.args.value p.stepper m e refused))
     (λ count m. refl) (ap (λ (p : Parsing _). p.peeked) view) (ap (λ (s : Stepping _). s.failed) left)
@@ -83,16 +83,16 @@ pub returns-clause-held : goal.returns-clause-held
 returns-clause-held g c = λ calls f reached opened waits at.
     let unread = g.T.Input.unread in
     let p = c.args.self in
-    let view = c.parser.view_is in
+    let view = c.self.view_is in
     let left = c.set_keep_tags.ensures ∙ ap (λ (p : Parsing _). keeping c.args.value p.stepper) view in
     held_then unread unchanged p (record {
       stepper = c.set_keep_tags.new.self;
-      peeked = c.parser.inside.peeked;
-      given = c.parser.inside.given;
-      starved = c.parser.inside.starved;
-      between = c.parser.inside.between;
-      over = c.parser.inside.over;
-      answered = c.parser.inside.answered;
+      peeked = c.self.inside.peeked;
+      given = c.self.inside.given;
+      starved = c.self.inside.starved;
+      between = c.self.inside.between;
+      over = c.self.inside.over;
+      answered = c.self.inside.answered;
     }) (λ m e refused. subst (λ (s : Stepping _). StandsRefused unread s m e) (sym left)
     (refused_alike unread c.args.value p.stepper m e refused))
     (λ count m. refl) (λ es m. refl) (λ keep. ap (λ (s : Stepping _). keeping_tags keep s.scanner.options) left)
@@ -105,16 +105,16 @@ pub returns-clause-holds : goal.returns-clause-holds
 returns-clause-holds g c = λ calls f holds.
     let unread = g.T.Input.unread in
     let p = c.args.self in
-    let view = c.parser.view_is in
+    let view = c.self.view_is in
     let left = c.set_keep_tags.ensures ∙ ap (λ (p : Parsing _). keeping c.args.value p.stepper) view in
     holds_changed unread unchanged p (record {
       stepper = c.set_keep_tags.new.self;
-      peeked = c.parser.inside.peeked;
-      given = c.parser.inside.given;
-      starved = c.parser.inside.starved;
-      between = c.parser.inside.between;
-      over = c.parser.inside.over;
-      answered = c.parser.inside.answered;
+      peeked = c.self.inside.peeked;
+      given = c.self.inside.given;
+      starved = c.self.inside.starved;
+      between = c.self.inside.between;
+      over = c.self.inside.over;
+      answered = c.self.inside.answered;
     }) (λ m e refused. subst (λ (s : Stepping _). StandsRefused unread s m e) (sym left)
     (refused_alike unread c.args.value p.stepper m e refused))
     (λ count m. refl) (λ es m. refl) (λ keep. ap (λ (s : Stepping _). keeping_tags keep s.scanner.options) left)

@@ -1,9 +1,12 @@
+use Rattle.std.proofs.Common.{refl, le_refl}
 use Rattle.std.proofs.Common.{◌≡◌, ◌∙◌, [], ◌∷◌, Some, Err, true, false, sym, subst}
+use Rattle.std.proofs.lemmas.Result.{err_from_is_err_and}
 use Rattle.std.specs.Prelude.{⊤}
 use Rattle.granit_base.specs.declared.place.Span.{Span}
 use Rattle.granit_error.specs.OptionsData.{OptionsData}
-use Rattle.granit_event.specs.declared.event.Event.{Event}
 use Rattle.granit_event.specs.Events.{plain_event}
+use Rattle.granit_event.specs.declared.event.Event.{Event}
+use Rattle.granit_input.proofs.OriginLemmas.{goes_nowhere}
 use Rattle.granit_parser.proofs.FirstLemmas.{first_is_last, goes_behind, load_refused, loads_behind, over_nowhere}
 use Rattle.granit_parser.proofs.LedLemmas.{first_led, leaves_behind, load_failed, over_closed}
 use Rattle.granit_parser.proofs.MetLemmas.{load_tells, over_tells, rest_tells}
@@ -11,9 +14,10 @@ use Rattle.granit_parser.proofs.WantLemmas.{given_nothing, load_refuses, load_wa
 use Rattle.granit_parser.proofs.WantLemmas.{was_fed}
 use Rattle.granit_parser.proofs.parser.Parser.load.Goals as goal
 use Rattle.granit_parser.specs.Receiving.{IsPlaceOf, LoadsRest}
-use Rattle.granit_receivers.specs.Sending.{is_last}
 use Rattle.granit_receivers.proofs.TakingLemmas.{took_one}
+use Rattle.granit_receivers.specs.Sending.{is_last}
 use Rattle.granit_receivers.specs.Taking.{Told, Took}
+use Rattle.granit_sourced.proofs.SourceLemmas.{goes_giving, moves_on}
 
 pub returns-in-Some-clause-known : goal.returns-in-Some-clause-known
 returns-in-Some-clause-known g c = λ m at.
@@ -162,3 +166,96 @@ pub returns-clause-answered : goal.returns-clause-answered
 returns-clause-answered g c = λ calls reached is at.
     unless_refused (c.first_event.new.self.answered ≡ false) (c.load_rest.new.self.answered ≡ false)
     (Some c.load_rest.result) c.load_rest.ensures.answered (c.in_ok-event.ensures.answered calls reached is at)
+
+pub returns-in-Some-clause-peeked : goal.returns-in-Some-clause-peeked
+returns-in-Some-clause-peeked g c = c.in-Some.ensures.over.none
+
+pub returns-in-Some-clause-answered : goal.returns-in-Some-clause-answered
+returns-in-Some-clause-answered g c = λ calls reached is at.
+    absurd (over_closed g.T.Input.unread c.args.self.now calls c.in-Some.ensures.over is at)
+
+pub returns-in-Some-clause-given : goal.returns-in-Some-clause-given
+returns-in-Some-clause-given g c = λ none.
+    absurd (given_nothing c.args.self.now.given c.in-Some.error c.in-Some.ensures.again none)
+
+pub returns-in-Some-clause-options : goal.returns-in-Some-clause-options
+returns-in-Some-clause-options g c = refl
+
+pub returns-in-Some-clause-renumbered : goal.returns-in-Some-clause-renumbered
+returns-in-Some-clause-renumbered g c = refl
+
+pub returns-in-Some-clause-moves : goal.returns-in-Some-clause-moves
+returns-in-Some-clause-moves g c = (le_refl _, goes_giving _ _ (goes_nowhere _))
+
+pub returns-in-Some-clause-onward : goal.returns-in-Some-clause-onward
+returns-in-Some-clause-onward g c = λ start before. before
+
+pub returns-in_err-event-clause-peeked : goal.returns-in_err-event-clause-peeked
+returns-in_err-event-clause-peeked g c = c.in_err-event.ensures.peeked
+
+pub returns-in_err-event-clause-options : goal.returns-in_err-event-clause-options
+returns-in_err-event-clause-options g c = c.in_err-event.ensures.options
+
+pub returns-in_err-event-clause-renumbered : goal.returns-in_err-event-clause-renumbered
+returns-in_err-event-clause-renumbered g c = c.in_err-event.ensures.renumbered
+
+pub returns-in_err-event-clause-onward : goal.returns-in_err-event-clause-onward
+returns-in_err-event-clause-onward g c = c.in_err-event.ensures.onward
+
+pub returns-then-last-clause-peeked : goal.returns-then-last-clause-peeked
+returns-then-last-clause-peeked g c = c.in_ok-event.ensures.peeked
+
+pub returns-then-last-clause-given : goal.returns-then-last-clause-given
+returns-then-last-clause-given g c = c.in_ok-event.ensures.given
+
+pub returns-then-last-clause-options : goal.returns-then-last-clause-options
+returns-then-last-clause-options g c = c.in_ok-event.ensures.options
+
+pub returns-then-last-clause-renumbered : goal.returns-then-last-clause-renumbered
+returns-then-last-clause-renumbered g c = c.in_ok-event.ensures.renumbered
+
+pub returns-then-last-clause-moves : goal.returns-then-last-clause-moves
+returns-then-last-clause-moves g c = c.in_ok-event.ensures.moves
+
+pub returns-then-last-clause-onward : goal.returns-then-last-clause-onward
+returns-then-last-clause-onward g c = c.in_ok-event.ensures.onward
+
+pub returns-then-last-clause-source : goal.returns-then-last-clause-source
+returns-then-last-clause-source g c = c.in_ok-event.ensures.source
+
+pub returns-then-last-clause-answered : goal.returns-then-last-clause-answered
+returns-then-last-clause-answered g c = c.in_ok-event.ensures.answered
+
+pub returns-clause-peeked : goal.returns-clause-peeked
+returns-clause-peeked g c = c.load_rest.ensures.peeked
+
+pub returns-clause-given : goal.returns-clause-given
+returns-clause-given g c = λ none. c.load_rest.ensures.given (c.in_ok-event.ensures.given none)
+
+pub returns-clause-options : goal.returns-clause-options
+returns-clause-options g c = c.load_rest.ensures.options ∙ c.in_ok-event.ensures.options
+
+pub returns-clause-renumbered : goal.returns-clause-renumbered
+returns-clause-renumbered g c = c.load_rest.ensures.renumbered ∙ c.in_ok-event.ensures.renumbered
+
+pub returns-clause-moves : goal.returns-clause-moves
+returns-clause-moves g c =
+    moves_on g.T.Input.unread g.T.Input.left g.T.Input.origin (Some c.load_rest.result)
+    c.args.self.now.stepper.scanner.cursor c.first_event.new.self.stepper.scanner.cursor
+    c.load_rest.new.self.stepper.scanner.cursor
+    (c.in_ok-event.ensures.moves.0, c.in_ok-event.ensures.moves.1, c.in_ok-event.ensures.onward)
+    c.load_rest.ensures.moves
+
+pub returns-clause-onward : goal.returns-clause-onward
+returns-clause-onward g c = λ start before.
+    c.load_rest.ensures.onward start (c.in_ok-event.ensures.onward start before)
+
+pub returns-in_err-event-clause-given : goal.returns-in_err-event-clause-given
+returns-in_err-event-clause-given g c =
+    let same = err_from_is_err_and c.from_residual.result c.from_residual.ensures.1 in
+    rw (same.1, same.2) c.in_err-event.ensures.given
+
+pub returns-in_err-event-clause-moves : goal.returns-in_err-event-clause-moves
+returns-in_err-event-clause-moves g c =
+    let same = err_from_is_err_and c.from_residual.result c.from_residual.ensures.1 in
+    rw same.1 c.in_err-event.ensures.moves

@@ -32,7 +32,7 @@ returns-then-looks_first-clause-failed g c = λ failed.
     } in
     let t = c.step_event in
     let x = t.ensures.over (ap (λ (q : Parsing _). q.stepper.failed) c.self.view_is ∙ failed) in
-    c.put_ahead.ensures ∙ look_stays g.T.Input.unread p (record p { stepper = t.new.stepper }) t.new.next
+    look_stays g.T.Input.unread p (record p { stepper = t.new.stepper }) t.new.next
     (ap (λ (q : Parsing _). q.peeked) c.self.view_is ∙ c.looks_first.ensures.seen c.if-looks_first.true) refl refl refl
     t.ensures.options (ap (λ (s : Stepping _). record p { stepper = s }) x.1) x.0 ∙ c.self.view_is
 
@@ -56,14 +56,14 @@ returns-then-looks_first-clause-next g c = λ calls reached at answered opened.
     let t = c.step_event in
     let none = ap (λ (q : Parsing _). q.peeked) c.self.view_is
     ∙ c.looks_first.ensures.seen c.if-looks_first.true in
-    rw c.put_ahead.ensures (shows_first g.T.Input.unread p (record p { stepper = t.new.stepper }) t.new.next
+    (shows_first g.T.Input.unread p (record p { stepper = t.new.stepper }) t.new.next
     none refl refl refl t.ensures.options c.self.invariant.0 t.ensures.calls t.ensures.refused t.ensures.lost
     (c.an_open_call_gives_something.ensures p.stepper.scanner.options) calls
     (subst (λ (q : Parsing _). ReachedByCalls q.stepper.scanner.options calls) (sym c.self.view_is) reached)
     (subst (λ (q : Parsing _). ParserIn g.T.Input.unread q calls) (sym c.self.view_is) at) opened)
 
 pub returns-then-looks_first-clause-onward : goal.returns-then-looks_first-clause-onward
-returns-then-looks_first-clause-onward g c = rw (c.put_ahead.ensures, ← c.self.view_is) c.step_event.ensures.moves.2
+returns-then-looks_first-clause-onward g c = rw (← c.self.view_is) c.step_event.ensures.moves.2
 
 pub returns-else-looks_first-clause-next : goal.returns-else-looks_first-clause-next
 returns-else-looks_first-clause-next g c = λ calls reached at answered opened.
@@ -87,7 +87,7 @@ returns-then-looks_first-clause-holds g c = λ calls f holds answered going.
     let none = ap (λ (q : Parsing _). q.peeked) c.self.view_is
     ∙ c.looks_first.ensures.seen c.if-looks_first.true in
     let there = subst (λ (q : Parsing _). ParserHolds g.T.Input.unread q calls f) (sym c.self.view_is) holds in
-    rw c.put_ahead.ensures (waiting_shows g.T.Input.unread p
+    (waiting_shows g.T.Input.unread p
     (record p { stepper = t.new.stepper; peeked = t.new.next }) calls f there
     t.ensures.options t.ensures.renumbered t.new.next
     (t.ensures.waits calls.steps f

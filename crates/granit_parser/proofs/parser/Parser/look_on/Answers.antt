@@ -19,7 +19,7 @@ returns-then-is_none-clause-peeks g c =
     } in
     let t = c.read_event in
     let none = none_seen p.peeked p.peeked c.is_none.result refl c.is_none.ensures c.if-is_none.true in
-    rw (← c.self.view_is, c.put_ahead.ensures) (peeks_unseen g.T.Input.unread g.T.Input.left g.T.Input.origin p
+    rw (← c.self.view_is) (peeks_unseen g.T.Input.unread g.T.Input.left g.T.Input.origin p
     (record p { stepper = t.new.stepper }) t.new.next none t.ensures.sure t.ensures.options t.ensures.source
     t.ensures.at_once refl refl t.ensures.refused
     (λ failed. let x = t.ensures.over failed in (x.0, ap (λ (s : Stepping _). record p { stepper = s }) x.1))
@@ -39,7 +39,7 @@ returns-then-is_none-clause-calls g c =
     let t = c.read_event in
     let none = none_seen p.peeked p.peeked c.is_none.result refl c.is_none.ensures c.if-is_none.true in
     let q : Parsing _ = record p { stepper = t.new.stepper; peeked = t.new.next } in
-    rw (← c.self.view_is, c.put_ahead.ensures) (peeks_read g.T.Input.unread g.T.Input.origin p q t.new.next none refl
+    rw (← c.self.view_is) (peeks_read g.T.Input.unread g.T.Input.origin p q t.new.next none refl
     refl refl
     (λ failed. let x = t.ensures.over failed in
     ap (λ (s : Stepping _). record p { stepper = s; peeked = t.new.next }) x.1

@@ -3,6 +3,7 @@ use Rattle.std.proofs.lemmas.Result.{err_from_is_err_and}
 use Rattle.granit_parser.proofs.HeldProceedLemmas.{answer_held, refused_held}
 use Rattle.granit_parser.proofs.HeldRecoverLemmas.{waits_going}
 use Rattle.granit_parser.proofs.NextLemmas.{noted_by}
+use Rattle.granit_parser.proofs.ProceedLemmas.{recovers_part}
 use Rattle.granit_parser.proofs.ProceedLemmas.{again_ends, answer_ends, failed_part, gives_again, is_end, not_end}
 use Rattle.granit_parser.proofs.ProceedLemmas.{not_given_up, over_ends, refused_ends}
 use Rattle.granit_parser.proofs.RecoverLemmas.{any_stops}
@@ -133,3 +134,98 @@ returns-clause-held g c = λ calls f holds going.
     (λ o. c.a_look_tells_where_recovery_asks.ensures.here o) (λ o. c.a_look_tells_where_recovery_asks.ensures.looked o)
     c.in_ok-follows.ensures.known c.in_ok-follows.ensures.waits c.answer.result c.answer.ensures.known
     c.answer.ensures.waits c.answer.ensures.answer c.answer.ensures.source
+
+pub returns-in_err-follows-clause-options : goal.returns-in_err-follows-clause-options
+returns-in_err-follows-clause-options g c = c.in_err-follows.ensures.options ∙ c.in_ok-skip.ensures.options
+
+pub returns-in_err-follows-clause-renumbered : goal.returns-in_err-follows-clause-renumbered
+returns-in_err-follows-clause-renumbered g c = c.in_err-follows.ensures.renumbered ∙ c.in_ok-skip.ensures.renumbered
+
+pub returns-in_err-follows-clause-onward : goal.returns-in_err-follows-clause-onward
+returns-in_err-follows-clause-onward g c = λ start before.
+    c.in_err-follows.ensures.moves.2 start (c.in_ok-skip.ensures.moves.2 start before)
+
+pub returns-clause-options : goal.returns-clause-options
+returns-clause-options g c = c.answer.ensures.options ∙ c.in_ok-follows.ensures.options ∙ c.in_ok-skip.ensures.options
+
+pub returns-clause-renumbered : goal.returns-clause-renumbered
+returns-clause-renumbered g c = c.answer.ensures.renumbered ∙ c.in_ok-follows.ensures.renumbered
+    ∙ c.in_ok-skip.ensures.renumbered
+
+pub returns-clause-onward : goal.returns-clause-onward
+returns-clause-onward g c = λ start before. c.answer.ensures.onward start
+    (c.in_ok-follows.ensures.moves.2 start (c.in_ok-skip.ensures.moves.2 start before))
+
+pub returns-in_err-skip-clause-options : goal.returns-in_err-skip-clause-options
+returns-in_err-skip-clause-options g c = c.in_err-skip.ensures.options
+
+pub returns-in_err-skip-clause-renumbered : goal.returns-in_err-skip-clause-renumbered
+returns-in_err-skip-clause-renumbered g c = c.in_err-skip.ensures.renumbered
+
+pub returns-in_err-skip-clause-onward : goal.returns-in_err-skip-clause-onward
+returns-in_err-skip-clause-onward g c = c.in_err-skip.ensures.moves.2
+
+pub returns-then-cannot_recover-clause-over : goal.returns-then-cannot_recover-clause-over
+returns-then-cannot_recover-clause-over g c = λ over.
+    absurd (let no : true ≡ false = sym over ∙ sym (ap (λ (x : Parsing _). x.over) c.self.view_is)
+    ∙ c.if-self.false in cc)
+
+pub returns-then-ends_stream-clause-over : goal.returns-then-ends_stream-clause-over
+returns-then-ends_stream-clause-over g c = λ over.
+    absurd (let no : true ≡ false = sym over ∙ sym (ap (λ (x : Parsing _). x.over) c.self.view_is)
+    ∙ c.if-self.false in cc)
+
+pub returns-in_err-skip-clause-over : goal.returns-in_err-skip-clause-over
+returns-in_err-skip-clause-over g c = λ over.
+    absurd (let no : true ≡ false = sym over ∙ sym (ap (λ (x : Parsing _). x.over) c.self.view_is)
+    ∙ c.if-self.false in cc)
+
+pub returns-in_err-follows-clause-over : goal.returns-in_err-follows-clause-over
+returns-in_err-follows-clause-over g c = λ over.
+    absurd (let no : true ≡ false = sym over ∙ sym (ap (λ (x : Parsing _). x.over) c.self.view_is)
+    ∙ c.if-self.false in cc)
+
+pub returns-clause-over : goal.returns-clause-over
+returns-clause-over g c = λ over.
+    absurd (let no : true ≡ false = sym over ∙ sym (ap (λ (x : Parsing _). x.over) c.self.view_is)
+    ∙ c.if-self.false in cc)
+
+pub returns-then-ends_stream-clause-again : goal.returns-then-ends_stream-clause-again
+returns-then-ends_stream-clause-again g c = λ over failed none.
+    absurd (recovers_part c.args.self.now.stepper.failed c.args.self.now.stepper.refusal
+    (sym c.cannot_recover.ensures ∙ c.if-cannot_recover.false) failed none)
+
+pub returns-then-ends_stream-clause-seen : goal.returns-then-ends_stream-clause-seen
+returns-then-ends_stream-clause-seen g c = λ over failed none given.
+    absurd (recovers_part c.args.self.now.stepper.failed c.args.self.now.stepper.refusal
+    (sym c.cannot_recover.ensures ∙ c.if-cannot_recover.false) failed none)
+
+pub returns-in_err-skip-clause-again : goal.returns-in_err-skip-clause-again
+returns-in_err-skip-clause-again g c = λ over failed none.
+    absurd (recovers_part c.args.self.now.stepper.failed c.args.self.now.stepper.refusal
+    (sym c.cannot_recover.ensures ∙ c.if-cannot_recover.false) failed none)
+
+pub returns-in_err-skip-clause-seen : goal.returns-in_err-skip-clause-seen
+returns-in_err-skip-clause-seen g c = λ over failed none given.
+    absurd (recovers_part c.args.self.now.stepper.failed c.args.self.now.stepper.refusal
+    (sym c.cannot_recover.ensures ∙ c.if-cannot_recover.false) failed none)
+
+pub returns-in_err-follows-clause-again : goal.returns-in_err-follows-clause-again
+returns-in_err-follows-clause-again g c = λ over failed none.
+    absurd (recovers_part c.args.self.now.stepper.failed c.args.self.now.stepper.refusal
+    (sym c.cannot_recover.ensures ∙ c.if-cannot_recover.false) failed none)
+
+pub returns-in_err-follows-clause-seen : goal.returns-in_err-follows-clause-seen
+returns-in_err-follows-clause-seen g c = λ over failed none given.
+    absurd (recovers_part c.args.self.now.stepper.failed c.args.self.now.stepper.refusal
+    (sym c.cannot_recover.ensures ∙ c.if-cannot_recover.false) failed none)
+
+pub returns-clause-again : goal.returns-clause-again
+returns-clause-again g c = λ over failed none.
+    absurd (recovers_part c.args.self.now.stepper.failed c.args.self.now.stepper.refusal
+    (sym c.cannot_recover.ensures ∙ c.if-cannot_recover.false) failed none)
+
+pub returns-clause-seen : goal.returns-clause-seen
+returns-clause-seen g c = λ over failed none given.
+    absurd (recovers_part c.args.self.now.stepper.failed c.args.self.now.stepper.refusal
+    (sym c.cannot_recover.ensures ∙ c.if-cannot_recover.false) failed none)

@@ -1,6 +1,8 @@
 use Rattle.std.proofs.Common.{◌≡◌, ◌⊎◌, inl, Bool, true, false, not, ◌&&◌, is_some, None, ap, refl, sym, subst}
-use Rattle.std.proofs.Common.{◌∙◌}
+use Rattle.std.proofs.Common.{◌∙◌, le_refl}
 use Rattle.std.specs.Prelude.{OnOk}
+use Rattle.granit_cursor.specs.Reading.{Moves}
+use Rattle.granit_input.proofs.OriginLemmas.{goes_nowhere}
 use Rattle.granit_parser.proofs.DropLemmas.{on_ok}
 use Rattle.granit_parser.proofs.DroppedLemmas.{document_dropped, end_dropped, fault_dropped, none_dropped}
 use Rattle.granit_parser.proofs.HeldRecoverLemmas as held
@@ -48,7 +50,7 @@ returns-then-ends-clause-known g c = λ calls reached at over refusal end.
     let p = c.args.self.now in
     let o = p.stepper.scanner.options in
     end_dropped g.T.Input.unread p calls reached at over refusal (c.a_look_tells_where_recovery_asks.ensures.here o)
-    (c.calls_go_by_turns.ensures o) c.take_seen.new.self c.take_seen.ensures.rest
+    (c.calls_go_by_turns.ensures o) c.forget_seen.new.self c.forget_seen.ensures
     (sym c.has_failed.ensures ∙ c.if-has_failed.false)
     (ap (λ s. p.between && not (seeing.seen_starts_document s)) (sym c.seen-seen.ensures)
     ∙ sym c.stays.ensures ∙ c.if-stays.false)
@@ -58,7 +60,7 @@ pub returns-clause-known : goal.returns-clause-known
 returns-clause-known g c = λ calls reached at over refusal end.
     let p = c.args.self.now in
     let o = p.stepper.scanner.options in
-    let same = c.self-2.view_is ∙ c.take_seen.ensures.rest in
+    let same = c.self-2.view_is ∙ c.forget_seen.ensures in
     document_dropped g.T.Input.unread p calls reached at over refusal
     (c.a_look_tells_where_recovery_asks.ensures.here o) (c.calls_go_by_turns.ensures o) c.self-2.inside.stepper
     (ap (λ (x : Parsing _). x.stepper) same) (record {
@@ -109,15 +111,15 @@ pub returns-then-ends-clause-held : goal.returns-then-ends-clause-held
 returns-then-ends-clause-held g c = λ calls f holds going end.
     let unread = g.T.Input.unread in
     let p = c.args.self.now in
-    let q = c.take_seen.new.self in
+    let q = c.forget_seen.new.self in
     let stays : stays_by p.between p.peeked ≡ false =
     ap (λ s. p.between && not (seeing.seen_starts_document s)) (sym c.seen-seen.ensures)
     ∙ sym c.stays.ensures ∙ c.if-stays.false in
     inl (subst (λ (b : Bool). SkipsWaiting unread p.stepper.scanner.cursor (is_some p.peeked) f
     (held_behind b f calls.steps) q) (sym stays)
     (end_goes unread p.stepper.scanner.cursor (is_some p.peeked) p.peeked p.stepper q calls.steps f
-    (ap (λ (x : Parsing _). x.stepper) c.take_seen.ensures.rest)
-    (ap (λ (x : Parsing _). x.peeked) c.take_seen.ensures.rest)
+    (ap (λ (x : Parsing _). x.stepper) c.forget_seen.ensures)
+    (ap (λ (x : Parsing _). x.peeked) c.forget_seen.ensures)
     (ap seeing.seen_ends_document (sym c.seen-seen.ensures) ∙ sym c.ends.ensures ∙ c.if-ends.true) holds.waits))
 
 pub returns-then-ends-clause-looked : goal.returns-then-ends-clause-looked
@@ -126,14 +128,14 @@ returns-then-ends-clause-looked g c = λ going.
     let stays : stays_by p.between p.peeked ≡ false =
     ap (λ s. p.between && not (seeing.seen_starts_document s)) (sym c.seen-seen.ensures)
     ∙ sym c.stays.ensures ∙ c.if-stays.false in
-    ap (λ (x : Parsing _). x.peeked) c.take_seen.ensures.rest ∙ ap (λ (b : Bool). stays_seen b p.peeked) (sym stays)
+    ap (λ (x : Parsing _). x.peeked) c.forget_seen.ensures ∙ ap (λ (b : Bool). stays_seen b p.peeked) (sym stays)
 
 pub returns-clause-held : goal.returns-clause-held
 returns-clause-held g c = λ calls f holds going end.
     let unread = g.T.Input.unread in
     let p = c.args.self.now in
     let o = p.stepper.scanner.options in
-    let same = c.self-2.view_is ∙ c.take_seen.ensures.rest in
+    let same = c.self-2.view_is ∙ c.forget_seen.ensures in
     let stepper : c.self-2.inside.stepper ≡ p.stepper = ap (λ (x : Parsing _). x.stepper) same in
     let none : c.self-2.inside.peeked ≡ None = ap (λ (x : Parsing _). x.peeked) same in
     let q : Parsing _ = record {
@@ -174,9 +176,71 @@ returns-clause-held g c = λ calls f holds going end.
 pub returns-clause-looked : goal.returns-clause-looked
 returns-clause-looked g c = λ going.
     let p = c.args.self.now in
-    let same = c.self-2.view_is ∙ c.take_seen.ensures.rest in
+    let same = c.self-2.view_is ∙ c.forget_seen.ensures in
     let stays : stays_by p.between p.peeked ≡ false =
     ap (λ s. p.between && not (seeing.seen_starts_document s)) (sym c.seen-seen.ensures)
     ∙ sym c.stays.ensures ∙ c.if-stays.false in
     looked_ok c.skip_document.result (ap (λ (x : Parsing _). x.peeked) same
     ∙ ap (λ (b : Bool). stays_seen b p.peeked) (sym stays))
+
+pub returns-then-has_failed-clause-memory : goal.returns-then-has_failed-clause-memory
+returns-then-has_failed-clause-memory g c = c.skip_fault.ensures.memory
+
+pub returns-then-has_failed-clause-going : goal.returns-then-has_failed-clause-going
+returns-then-has_failed-clause-going g c = ap (λ (x : Parsing _). x.over) (c.self.view_is ∙ c.forget_refusal.ensures)
+
+pub returns-then-has_failed-clause-options : goal.returns-then-has_failed-clause-options
+returns-then-has_failed-clause-options g c = c.skip_fault.ensures.options
+    ∙ ap (λ (x : Parsing _). x.stepper.scanner.options) (c.self.view_is ∙ c.forget_refusal.ensures)
+
+pub returns-then-has_failed-clause-renumbered : goal.returns-then-has_failed-clause-renumbered
+returns-then-has_failed-clause-renumbered g c = c.skip_fault.ensures.renumbered
+    ∙ ap (λ (x : Parsing _). x.stepper.renumbered) (c.self.view_is ∙ c.forget_refusal.ensures)
+
+pub returns-then-has_failed-clause-moves : goal.returns-then-has_failed-clause-moves
+returns-then-has_failed-clause-moves g c = subst (λ (x : Parsing _). Moves g.T.Input.unread g.T.Input.left
+    g.T.Input.origin x.stepper.scanner.cursor c.skip_fault.new.self.scanner.cursor)
+    (c.self.view_is ∙ c.forget_refusal.ensures) c.skip_fault.ensures.moves
+
+pub returns-clause-memory : goal.returns-clause-memory
+returns-clause-memory g c = c.skip_document.ensures.memory
+
+pub returns-clause-going : goal.returns-clause-going
+returns-clause-going g c = ap (λ (x : Parsing _). x.over) (c.self-2.view_is ∙ c.forget_seen.ensures)
+
+pub returns-clause-options : goal.returns-clause-options
+returns-clause-options g c = c.skip_document.ensures.options
+    ∙ ap (λ (x : Parsing _). x.stepper.scanner.options) (c.self-2.view_is ∙ c.forget_seen.ensures)
+
+pub returns-clause-renumbered : goal.returns-clause-renumbered
+returns-clause-renumbered g c = c.skip_document.ensures.renumbered
+    ∙ ap (λ (x : Parsing _). x.stepper.renumbered) (c.self-2.view_is ∙ c.forget_seen.ensures)
+
+pub returns-clause-moves : goal.returns-clause-moves
+returns-clause-moves g c = subst (λ (x : Parsing _). Moves g.T.Input.unread g.T.Input.left g.T.Input.origin
+    x.stepper.scanner.cursor c.skip_document.new.self.scanner.cursor) (c.self-2.view_is ∙ c.forget_seen.ensures)
+    c.skip_document.ensures.moves
+
+pub returns-then-stays-clause-going : goal.returns-then-stays-clause-going
+returns-then-stays-clause-going g c = refl
+
+pub returns-then-stays-clause-options : goal.returns-then-stays-clause-options
+returns-then-stays-clause-options g c = refl
+
+pub returns-then-stays-clause-renumbered : goal.returns-then-stays-clause-renumbered
+returns-then-stays-clause-renumbered g c = refl
+
+pub returns-then-stays-clause-moves : goal.returns-then-stays-clause-moves
+returns-then-stays-clause-moves g c = (le_refl _, goes_nowhere _, λ start before. before)
+
+pub returns-then-ends-clause-going : goal.returns-then-ends-clause-going
+returns-then-ends-clause-going g c = ap (λ (x : Parsing _). x.over) c.forget_seen.ensures
+
+pub returns-then-ends-clause-options : goal.returns-then-ends-clause-options
+returns-then-ends-clause-options g c = ap (λ (x : Parsing _). x.stepper.scanner.options) c.forget_seen.ensures
+
+pub returns-then-ends-clause-renumbered : goal.returns-then-ends-clause-renumbered
+returns-then-ends-clause-renumbered g c = ap (λ (x : Parsing _). x.stepper.renumbered) c.forget_seen.ensures
+
+pub returns-then-ends-clause-moves : goal.returns-then-ends-clause-moves
+returns-then-ends-clause-moves g c = rw c.forget_seen.ensures (le_refl _, goes_nowhere _, λ start before. before)

@@ -2,8 +2,8 @@ use Rattle.std.proofs.Common.{◌≡◌, ◌∙◌, Result, Ok, Err, Some, None,
 use Rattle.std.proofs.Common.{inl, inr}
 use Rattle.granit_base.specs.declared.place.Span.{Span}
 use Rattle.granit_error.specs.Refused.{Refused}
-use Rattle.granit_event.specs.declared.event.Event.{Event}
 use Rattle.granit_event.specs.Events.{plain_event}
+use Rattle.granit_event.specs.declared.event.Event.{Event}
 use Rattle.granit_parser.proofs.LedLemmas.{CalledOr, led_event, led_fault, led_last, led_no_more, led_none, led_nowhere}
 use Rattle.granit_parser.proofs.LedLemmas.{unasked}
 use Rattle.granit_parser.proofs.MetLemmas.{met_behind, quiet_first, quiet_on, unmet}
@@ -13,8 +13,8 @@ use Rattle.granit_parser.proofs.SourceLemmas.{moves_behind}
 use Rattle.granit_parser.proofs.WantLemmas.{answered_none, counts_all, counts_more, counts_none, starves_by}
 use Rattle.granit_parser.proofs.parser.Parser.try_rest.Goals as goal
 use Rattle.granit_parser.specs.Parsing.{KeepsGiven}
-use Rattle.granit_receivers.specs.Sending.{is_last}
 use Rattle.granit_receivers.proofs.TakingLemmas.{took_one}
+use Rattle.granit_receivers.specs.Sending.{is_last}
 use Rattle.granit_receivers.specs.Taking.{Told, Took}
 use Rattle.granit_sourced.proofs.SourceLemmas.{goes_giving}
 
@@ -282,3 +282,70 @@ pub returns-in-Err-clause-answered : goal.returns-in-Err-clause-answered
 returns-in-Err-clause-answered g c = λ unasked.
     answered_none c.in-Some-Ok.field-0 (c.in-Some-Ok.event, c.in-Some-Ok.span) c.events.self.answered
     c.next_event.new.self.answered c.in-Some-Ok.field-0-is c.in-Some-Ok.ensures.answered
+
+pub returns-in-None-clause-peeked : goal.returns-in-None-clause-peeked
+returns-in-None-clause-peeked g c = c.in-None.ensures.peeked
+
+pub returns-in-None-clause-options : goal.returns-in-None-clause-options
+returns-in-None-clause-options g c = c.in-None.ensures.options ∙ c.events.invariant.same
+
+pub returns-in-None-clause-renumbered : goal.returns-in-None-clause-renumbered
+returns-in-None-clause-renumbered g c = c.in-None.ensures.renumbered ∙ c.events.invariant.renumbered
+
+pub returns-in-None-clause-onward : goal.returns-in-None-clause-onward
+returns-in-None-clause-onward g c = λ start before.
+    c.in-None.ensures.onward start (c.events.invariant.moves.2 start before)
+
+pub returns-in-Some-Err-clause-peeked : goal.returns-in-Some-Err-clause-peeked
+returns-in-Some-Err-clause-peeked g c = c.in-Some-Err.ensures.peeked
+
+pub returns-in-Some-Err-clause-options : goal.returns-in-Some-Err-clause-options
+returns-in-Some-Err-clause-options g c = c.in-Some-Err.ensures.options ∙ c.events.invariant.same
+
+pub returns-in-Some-Err-clause-renumbered : goal.returns-in-Some-Err-clause-renumbered
+returns-in-Some-Err-clause-renumbered g c = c.in-Some-Err.ensures.renumbered ∙ c.events.invariant.renumbered
+
+pub returns-in-Some-Err-clause-onward : goal.returns-in-Some-Err-clause-onward
+returns-in-Some-Err-clause-onward g c = λ start before.
+    c.in-Some-Err.ensures.onward start (c.events.invariant.moves.2 start before)
+
+pub returns-then-last-clause-peeked : goal.returns-then-last-clause-peeked
+returns-then-last-clause-peeked g c = c.in-Some-Ok.ensures.peeked
+
+pub returns-then-last-clause-options : goal.returns-then-last-clause-options
+returns-then-last-clause-options g c = c.in-Some-Ok.ensures.options ∙ c.events.invariant.same
+
+pub returns-then-last-clause-renumbered : goal.returns-then-last-clause-renumbered
+returns-then-last-clause-renumbered g c = c.in-Some-Ok.ensures.renumbered ∙ c.events.invariant.renumbered
+
+pub returns-then-last-clause-onward : goal.returns-then-last-clause-onward
+returns-then-last-clause-onward g c = λ start before.
+    c.in-Some-Ok.ensures.onward start (c.events.invariant.moves.2 start before)
+
+pub returns-in-Err-clause-peeked : goal.returns-in-Err-clause-peeked
+returns-in-Err-clause-peeked g c = c.in-Some-Ok.ensures.peeked
+
+pub returns-in-Err-clause-options : goal.returns-in-Err-clause-options
+returns-in-Err-clause-options g c = c.in-Some-Ok.ensures.options ∙ c.events.invariant.same
+
+pub returns-in-Err-clause-renumbered : goal.returns-in-Err-clause-renumbered
+returns-in-Err-clause-renumbered g c = c.in-Some-Ok.ensures.renumbered ∙ c.events.invariant.renumbered
+
+pub returns-in-Err-clause-onward : goal.returns-in-Err-clause-onward
+returns-in-Err-clause-onward g c = λ start before.
+    c.in-Some-Ok.ensures.onward start (c.events.invariant.moves.2 start before)
+
+pub returns-in-None-clause-given : goal.returns-in-None-clause-given
+returns-in-None-clause-given g c = λ none. c.in-None.ensures.given ∙ c.events.invariant.given ∙ none
+
+pub returns-clause-peeked : goal.returns-clause-peeked
+returns-clause-peeked g c = c.run_out.ensures.over.none
+
+pub returns-clause-options : goal.returns-clause-options
+returns-clause-options g c = rw c.run_out.ensures.same c.events.invariant.same
+
+pub returns-clause-renumbered : goal.returns-clause-renumbered
+returns-clause-renumbered g c = c.run_out.ensures.renumbered ∙ c.events.invariant.renumbered
+
+pub returns-clause-onward : goal.returns-clause-onward
+returns-clause-onward g c = rw c.run_out.ensures.same c.events.invariant.moves.2
