@@ -8,6 +8,8 @@ mod agree;
 #[cfg(test)]
 mod base;
 #[cfg(test)]
+mod begun;
+#[cfg(test)]
 mod escapes;
 #[cfg(test)]
 mod failing;
