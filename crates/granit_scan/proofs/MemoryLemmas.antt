@@ -173,13 +173,10 @@ or_true : (b : Bool) → true ≡ (b || true)
 or_true true = refl
 or_true false = refl
 
-alike : (F : Refused → Type 0) (A : Type 0) (ts us : List PlainToken) (q p : List FlaggedItem) (b c : Bool)
-    (f g : Option Refused) → us ≡ ts → p ≡ q → c ≡ b → g ≡ f → WithoutTurnBy ts q b f F A → WithoutTurnBy us p c g F A
-alike F A ts us q p b c f g tokens items over kept told =
-    subst (λ (vs : List PlainToken). WithoutTurnBy vs p c g F A) (sym tokens)
-    (subst (λ (is : List FlaggedItem). WithoutTurnBy ts is c g F A) (sym items)
-    (subst (λ (x : Bool). WithoutTurnBy ts q x g F A) (sym over)
-    (subst (λ (x : Option Refused). WithoutTurnBy ts q b x F A) (sym kept) told)))
+-- what is told of tokens, items and a fault is told of the same ones
+alike : (F : Refused → Type 0) (A : Type 0) {ts us : List PlainToken} {q p : List FlaggedItem} {b c : Bool}
+    {f g : Option Refused} → us ≡ ts → p ≡ q → c ≡ b → g ≡ f → WithoutTurnBy ts q b f F A → WithoutTurnBy us p c g F A
+alike F A tokens items over kept told = rw (tokens, items, over, kept) told
 
 module _ {I : Type 0} (unread : I → Unread → Type 0) (s : TokenScanning I) (m : TokenState)
     (at : ScannerIn unread s m) where
@@ -201,9 +198,7 @@ module _ {I : Type 0} (unread : I → Unread → Type 0) (s : TokenScanning I) (
       → StateWithoutTurn m (λ f. r ≡ Err f) (IsOk r)
   state_told r told =
       let done = done_by s.items.fault at.reading in
-      alike (λ f. r ≡ Err f) (IsOk r) (all_waiting s) m.pending s.items.queue
-      (parsers_items m.reading.reader.laid m.reading.fault m.queue) (is_done s.items) (is_over m.reading)
-      s.items.fault m.reading.fault at.pending (rests unread s m at).queue done.0 done.1 told
+      alike (λ f. r ≡ Err f) (IsOk r) at.pending (rests unread s m at).queue done.0 done.1 told
 
 -- ---- a step of the iterator
 
