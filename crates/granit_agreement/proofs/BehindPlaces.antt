@@ -11,7 +11,7 @@ use Rattle.granit_grammar.specs.EventMachine.{frames_indent, part_frames, stop_k
 use Rattle.granit_grammar.specs.Guarded.{blocks_open}
 use Rattle.granit_language.specs.Choice.{choose}
 use Rattle.granit_language.specs.Node.{TreeProperties, NoProperties, One, Two}
-use Rattle.granit_language.specs.Room.{Room, BehindKey, Inside, behind_property, room_behind, right_fits, loose_fits}
+use Rattle.granit_language.specs.Room.{BehindKey, Inside, behind_property, right_fits, loose_fits}
 use Rattle.granit_language.specs.Room.{indicates, part_fits, joins, continues_node}
 use Rattle.granit_language.specs.Terminal.{Anchor, Tag, Part, PartKind, Alias, Property, Scalar, Open, Question, Colon}
 use Rattle.granit_language.specs.Terminal.{At, Terminal, edge}
@@ -22,20 +22,17 @@ use Rattle.granit_machine.specs.Frames.{ParserState}
 use Rattle.granit_machine.specs.Parser.{take_token}
 use Rattle.std.proofs.Common.{◌≡◌, ℕ, suc, Bool, true, false, ◌||◌, ◌&&◌, not, nat_lt, List, [], ◌∷◌, refl, sym, ap}
 use Rattle.std.proofs.Common.{ap₂, ◌∙◌, subst, Option, Some, None, Result}
+use Rattle.std.proofs.lemmas.Bool.{and_parts, not-false}
 use Rattle.std.specs.Prelude.{nat_le}
 use Rattle.granit_lexemes.specs.Outcome.{Fault}
 use Rattle.granit_lexemes.specs.Lexeme as lexemes
-use Rattle.granit_grammar.proofs.Tests.{and_left, and_right}
 use Rattle.granit_agreement.proofs.Arrivals.{Arrival, arriving, arriving_token, beside_at, parser_at, StepsLimited}
 use Rattle.granit_agreement.proofs.BlockNodes.{part_limited}
 use Rattle.granit_agreement.proofs.NodeTests.{Joined, Tested, NodeOf, RightOfHole, node_or, dash_tested}
 use Rattle.granit_agreement.proofs.PartSteps.{scalar_parts, square_parts, curly_parts, anchor_parts, tag_parts}
 use Rattle.granit_agreement.proofs.Views.{after_nothing}
-use Rattle.granit_agreement.proofs.Wants.{BlockHole, root_hole, entry_hole, asked_hole, value_hole, hole_column}
+use Rattle.granit_agreement.proofs.Wants.{BlockHole, root_hole, entry_hole, asked_hole, value_hole, hole_column, RoomOf}
 use Rattle.granit_agreement.proofs.Wants.{right_is, indicates_is, part_fits_is}
-
-abbrev RoomOf : TreeProperties → List OpenFrame → Room
-RoomOf p fs = room_behind p (frames_room fs)
 
 -- the place of properties: outside flow, in a simple key there, or in flow
 data PlaceOr (p : TreeProperties) (fs : List OpenFrame) : Type 0 where
@@ -100,7 +97,7 @@ plain_behind :
     (want_frames fs p (Part m) (arriving false k None a).at)
 plain_behind m k a p fs n c v =
     subst (LimitView a.options (arriving false k None a) (beside_at a) n)
-    (sym (plain_is fs p m (arriving false k None a).at refl (and_left _ _ c))) v
+    (sym (plain_is fs p m (arriving false k None a).at refl (and_parts _ _ c).0)) v
 
 -- ---- one that begins something outside flow
 
@@ -214,18 +211,18 @@ behind_given false (lexemes.Anchor name) key a p fs g h r e c f =
     plain_behind (Property (Anchor name)) (lexemes.Anchor name) a p fs
     (NodeOf false (lexemes.Anchor name) key a p fs) c
     (part_limited false (Property (Anchor name)) (lexemes.Anchor name) a p fs (stop_kind fs) h e
-    (anchor_parts false name a p fs (stop_kind fs) h (and_right _ _ c)))
+    (anchor_parts false name a p fs (stop_kind fs) h (and_parts _ _ c).1))
 behind_given false (lexemes.Tag handle suffix) key a p fs g h r e c f =
     plain_behind (Property (Tag handle suffix)) (lexemes.Tag handle suffix) a p fs
     (NodeOf false (lexemes.Tag handle suffix) key a p fs) c
     (part_limited false (Property (Tag handle suffix)) (lexemes.Tag handle suffix)
     a p fs (stop_kind fs) h e
-    (tag_parts false handle suffix a p fs (stop_kind fs) h (and_right _ _ c)))
+    (tag_parts false handle suffix a p fs (stop_kind fs) h (and_parts _ _ c).1))
 behind_given false (lexemes.Alias name) key a NoProperties fs g h r e c f = absurd g
 behind_given false (lexemes.Alias name) key a (One k i) fs g h r e c f =
-    absurd (no_room (and_right _ _ c))
+    absurd (no_room (and_parts _ _ c).1)
 behind_given false (lexemes.Alias name) key a (Two k i m j) fs g h r e c f =
-    absurd (no_room (and_right _ _ c))
+    absurd (no_room (and_parts _ _ c).1)
 behind_given true (lexemes.Scalar style text) key a p fs g h (in_block q) e c f =
     tested_true true (lexemes.Scalar style text) key a p fs (RightOfHole a.lexeme fs)
     (key_right fs p (Scalar style text) (arriving true (lexemes.Scalar style text) key a).at q refl c)
@@ -283,10 +280,6 @@ continuing :
 continuing true st y x h = after_nothing (take_frames st x.kind x.at)
 continuing false st y x h = cc (h)
 
-not_false : (e : Bool) → not e ≡ false → e ≡ true
-not_false true h = refl
-not_false false h = cc (h)
-
 pub behind_properties_steps :
     (b : Bool) (k : lexemes.LexemeKind) (key : Option KeyStart) (a : Arrival) (p : TreeProperties)
     (fs : List OpenFrame) → GoodProperties p → Holes fs →
@@ -306,7 +299,7 @@ behind_properties_steps b k key a (One r i) fs g h f n e =
     (with_event (alone_event (One r i) (frames_indent fs))
     (finish_frames (arriving b k key a) (properties_end (One r i)) fs))
     (arriving b k key a) n))
-    (behind_given b k key a (One r i) fs g h (place_or (One r i) fs g h) e (not_false _ n) f.1)
+    (behind_given b k key a (One r i) fs g h (place_or (One r i) fs g h) e (not-false _ n) f.1)
 behind_properties_steps b k key a (Two r i m j) fs g h f n e =
     subst
     (LimitView a.options (arriving b k key a) (beside_at a)
@@ -318,4 +311,4 @@ behind_properties_steps b k key a (Two r i m j) fs g h f n e =
     (with_event (alone_event (Two r i m j) (frames_indent fs))
     (finish_frames (arriving b k key a) (properties_end (Two r i m j)) fs))
     (arriving b k key a) n))
-    (behind_given b k key a (Two r i m j) fs g h (place_or (Two r i m j) fs g h) e (not_false _ n) f.1)
+    (behind_given b k key a (Two r i m j) fs g h (place_or (Two r i m j) fs g h) e (not-false _ n) f.1)

@@ -23,12 +23,13 @@ use Rattle.granit_language.specs.Terminal.{bare_in, stands_in, reach_of, is_bare
 use Rattle.granit_language.specs.TreeEvents.{SequenceEnds, MappingEnds, TreeEvent, null, pointed, alone_event}
 use Rattle.granit_language.specs.TreeEvents.{properties_end}
 use Rattle.granit_lexemes.specs.declared.layout.Bracket.TheVariants.{Square}
-use Rattle.granit_machine.specs.Closing.{Closing, ends_top, end_top, close_turn, depth}
+use Rattle.granit_machine.specs.Closing.{ends_top, close_turn, depth}
 use Rattle.granit_machine.specs.Frames.{ParserState}
 use Rattle.granit_machine.specs.TokenSort.{Token, token_of}
 use Rattle.std.proofs.Common.{◌≡◌, ◌<◌, ℕ, suc, zero, Bool, true, false, List, [], ◌∷◌, ◌++◌, refl, sym, ap, ◌∙◌, subst}
 use Rattle.std.proofs.Common.{arith, ◌||◌, ◌&&◌, not, Some, None, Result, Ok}
-use Rattle.std.specs.Prelude.{if◌then◌else◌, nat_le}
+use Rattle.std.proofs.lemmas.Bool.{or_left, not-true, and_right}
+use Rattle.std.specs.Prelude.{nat_le}
 use Rattle.std.proofs.lemmas.Bool.Decides.{nat_tests}
 use Rattle.granit_grammar.specs.Guarded.{blocks_open}
 use Rattle.granit_error.specs.OptionsData.{OptionsData}
@@ -36,8 +37,8 @@ use Rattle.granit_lexemes.specs.Outcome.{Fault, ◌>>=◌}
 use Rattle.granit_lexemes.specs.Pieces.{with_front, then_more, turns, pieces}
 use Rattle.granit_lexemes.specs.PlainEvent.{PlainEvent}
 use Rattle.granit_lexemes.specs.Lexeme as lexemes
-use Rattle.granit_machine.proofs.ClosingLemmas.{close_turn-Shortens}
-use Rattle.granit_agreement.proofs.Ends.{ends_same, left_no_dash, dash_no_entry, left_not_in, and_no}
+use Rattle.granit_machine.proofs.ClosingLemmas.{close_turn-Shortens, close_by}
+use Rattle.granit_agreement.proofs.Ends.{ends_same, left_no_dash, dash_no_entry, left_not_in}
 use Rattle.granit_agreement.proofs.Pops.{ending_gives, ending_at, top_below, Popped, pops}
 use Rattle.granit_agreement.proofs.Standing.{put_good, finish_closes}
 
@@ -48,14 +49,6 @@ chosen false y z e = cc (e)
 not_chosen : {A : Type 0} → (b : Bool) (y z : A) → b ≡ false → choose b y z ≡ z
 not_chosen false y z e = refl
 not_chosen true y z e = cc (e)
-
-not_false : (b : Bool) → not b ≡ true → b ≡ false
-not_false false e = refl
-not_false true e = cc (e)
-
-or_first : (a b : Bool) → a ≡ true → (a || b) ≡ true
-or_first true b e = refl
-or_first false b e = cc (e)
 
 -- ---- tests
 
@@ -79,7 +72,7 @@ waits_over true x c e =
 waits_over false x c e = or_split (stands_left x c) false (stands_left x c ≡ true) e (λ l. l) (λ f. cc (f))
 
 left_not_bare : (x : Terminal) (c : ℕ) → stands_left x c ≡ true → not (bare_in x c) ≡ true
-left_not_bare x c e = ap not (and_no (is_bare_kind x.kind) (stands_in x c) (left_not_in (reach_of x.kind x.at) c e))
+left_not_bare x c e = ap not (and_right (is_bare_kind x.kind) (stands_in x c) (left_not_in (reach_of x.kind x.at) c e))
 
 ends_not_bare : (k : TerminalKind) → (is_comma_kind k || closes_kind Square k) ≡ true → not (is_bare_kind k) ≡ true
 ends_not_bare Comma e = refl
@@ -131,10 +124,10 @@ closes_ended x fs (hole (at_entry {loose = loose} {c = c} {w = w} {fs = gs} q h)
     ∙ ap (with_event (null w None)) (over_sequence x loose c gs h (waits_over loose x c e))
 closes_ended x fs (hole (at_key q h)) e = cc (e)
 closes_ended x fs (hole (at_asked {c = c} {fs = gs} q h)) e =
-    chosen (stands_left x c || entry_in x c) _ _ (or_first (stands_left x c) (entry_in x c) e)
+    chosen (stands_left x c || entry_in x c) _ _ (or_left (stands_left x c) (entry_in x c) e)
     ∙ ap (with_event (null x.at.start (Some c))) (over_asked x c gs h e)
 closes_ended x fs (hole (at_value {c = c} {w = w} {fs = gs} q h)) e =
-    chosen (stands_left x c || entry_in x c) _ _ (or_first (stands_left x c) (entry_in x c) e)
+    chosen (stands_left x c || entry_in x c) _ _ (or_left (stands_left x c) (entry_in x c) e)
     ∙ ap (with_event (null w None)) (over_mapping x c gs h e)
 closes_ended x fs (hole (at_item h)) e = cc (e)
 closes_ended x fs (hole (at_curly h)) e = cc (e)
@@ -156,7 +149,7 @@ closes_ended x fs (hole (pair_value {w = w} {fs = gs} h)) e =
     chosen (is_comma_kind x.kind || closes_kind Square x.kind) _ _ e
     ∙ ap (with_event (null x.at.start None)) (over_square x (FlowSequenceFrame false ∷ gs) (at_item h))
 closes_ended x fs (behind_properties {p = p} {fs = gs} g h) e =
-    not_chosen (continues_node (behind_property (frames_room gs)) p x.kind x.at) _ _ (not_false _ e)
+    not_chosen (continues_node (behind_property (frames_room gs)) p x.kind x.at) _ _ (not-true _ e)
     ∙ ap (with_event (alone_event p (frames_indent gs))) (finish_closes x (properties_end p) gs h)
 closes_ended x fs (past_entry {loose = loose} {c = c} {fs = gs} q h) e = over_sequence x loose c gs h e
 closes_ended x fs (key_done q h) e = cc (e)
@@ -379,14 +372,11 @@ turned o x fs d p g e v = record {
       v.below;
 }
 
-abbrev TurnBy : Bool → OptionsData → Token → ParserState → Closing
-TurnBy b o t p = if b then Ok (Some [], end_top o t p p.frames) else Ok (None, p)
-
 turn_is :
     (o : OptionsData) (t : Token) (p : ParserState) (b : Bool) → ends_top t p p.frames ≡ b →
-    close_turn o t p ≡ TurnBy b o t p
+    close_turn o t p ≡ close_by b o t p
 unfolding close_turn
-turn_is o t p b e = ap (λ b. TurnBy b o t p) e
+turn_is o t p b e = ap (λ b. close_by b o t p) e
 
 no_more :
     (o : OptionsData) (t : Token) (n : ℕ) (p : ParserState) → close_turn o t p ≡ Ok (None, p) →

@@ -1,7 +1,7 @@
 -- Behind an item, a key or a pair, a lexeme that is taken passes the guards.
 use Rattle.granit_agreement.specs.Good.{Holes}
-use Rattle.granit_agreement.specs.Stepping.{taken, at_kind}
-use Rattle.granit_language.specs.Seen.{terminal_kind, terminal_of}
+use Rattle.granit_agreement.specs.Stepping.{taken}
+use Rattle.granit_language.specs.Seen.{terminal_kind}
 use Rattle.granit_grammar.specs.EventMachine.{Opened, KeyDone, AskDone, Solo, Done, Value, OpenFrame, MappingFrame}
 use Rattle.granit_grammar.specs.EventMachine.{FlowSequenceFrame, FlowMappingFrame, FlowPairFrame, InFrames, EventStep}
 use Rattle.granit_grammar.specs.EventMachine.{GoesTo, StopsWith, ended_by, put_frames}
@@ -15,10 +15,7 @@ use Rattle.std.specs.Prelude.{nat_le}
 use Rattle.granit_error.specs.OptionsData.{OptionsData}
 use Rattle.granit_lexemes.specs.Lexeme as lexemes
 use Rattle.granit_agreement.proofs.BlockNodes.{put_count}
-use Rattle.granit_agreement.proofs.Views.{count_flat}
-
-abbrev X : Bool → lexemes.LexemeKind → Option KeyStart → Scope → lexemes.Lexeme → Terminal
-X b k key s l = terminal_of b s (at_kind l k key)
+use Rattle.granit_agreement.proofs.Views.{count_flat, met_as}
 
 -- a step passes what guards a state
 abbrev pub Calm : OptionsData → Terminal → EventStep → Type 0
@@ -28,7 +25,8 @@ Calm o x (StopsWith k) = Unit {0}
 pub item_done_calm :
     (b : Bool) (k : lexemes.LexemeKind) (key : Option KeyStart) (s : Scope) (l : lexemes.Lexeme) (o : OptionsData)
     (fs : List OpenFrame) → Holes fs → nat_le (blocks_open fs) o.block_nesting_limit ≡ true →
-    Calm o (X b k key s l) (taken (ended_by (X b k key s l) (InFrames (FlowSequenceFrame true ∷ fs))) (X b k key s l))
+    Calm o (met_as b k key s l)
+    (taken (ended_by (met_as b k key s l) (InFrames (FlowSequenceFrame true ∷ fs))) (met_as b k key s l))
 item_done_calm b (lexemes.Directive directive) key s l o fs h e = tt
 item_done_calm b lexemes.DocumentStart key s l o fs h e = tt
 item_done_calm b lexemes.DocumentEnd key s l o fs h e = tt
@@ -60,8 +58,8 @@ item_done_calm false (lexemes.Scalar style text) key s l o fs h e = tt
 pub curly_key_done_calm :
     (b : Bool) (k : lexemes.LexemeKind) (key : Option KeyStart) (s : Scope) (l : lexemes.Lexeme) (o : OptionsData)
     (fs : List OpenFrame) → Holes fs → nat_le (blocks_open fs) o.block_nesting_limit ≡ true →
-    Calm o (X b k key s l)
-    (taken (ended_by (X b k key s l) (InFrames (FlowMappingFrame false KeyDone ∷ fs))) (X b k key s l))
+    Calm o (met_as b k key s l)
+    (taken (ended_by (met_as b k key s l) (InFrames (FlowMappingFrame false KeyDone ∷ fs))) (met_as b k key s l))
 curly_key_done_calm b (lexemes.Directive directive) key s l o fs h e = tt
 curly_key_done_calm b lexemes.DocumentStart key s l o fs h e = tt
 curly_key_done_calm b lexemes.DocumentEnd key s l o fs h e = tt
@@ -92,8 +90,8 @@ curly_key_done_calm false (lexemes.Scalar style text) key s l o fs h e = tt
 pub curly_done_calm :
     (b : Bool) (k : lexemes.LexemeKind) (key : Option KeyStart) (s : Scope) (l : lexemes.Lexeme) (o : OptionsData)
     (fs : List OpenFrame) → Holes fs → nat_le (blocks_open fs) o.block_nesting_limit ≡ true →
-    Calm o (X b k key s l)
-    (taken (ended_by (X b k key s l) (InFrames (FlowMappingFrame false Done ∷ fs))) (X b k key s l))
+    Calm o (met_as b k key s l)
+    (taken (ended_by (met_as b k key s l) (InFrames (FlowMappingFrame false Done ∷ fs))) (met_as b k key s l))
 curly_done_calm b (lexemes.Directive directive) key s l o fs h e = tt
 curly_done_calm b lexemes.DocumentStart key s l o fs h e = tt
 curly_done_calm b lexemes.DocumentEnd key s l o fs h e = tt
@@ -125,8 +123,8 @@ curly_done_calm false (lexemes.Scalar style text) key s l o fs h e = tt
 pub curly_solo_calm :
     (b : Bool) (k : lexemes.LexemeKind) (key : Option KeyStart) (s : Scope) (l : lexemes.Lexeme) (o : OptionsData)
     (fs : List OpenFrame) → Holes fs → nat_le (blocks_open fs) o.block_nesting_limit ≡ true →
-    Calm o (X b k key s l)
-    (taken (ended_by (X b k key s l) (InFrames (FlowMappingFrame false Solo ∷ fs))) (X b k key s l))
+    Calm o (met_as b k key s l)
+    (taken (ended_by (met_as b k key s l) (InFrames (FlowMappingFrame false Solo ∷ fs))) (met_as b k key s l))
 curly_solo_calm b (lexemes.Directive directive) key s l o fs h e = tt
 curly_solo_calm b lexemes.DocumentStart key s l o fs h e = tt
 curly_solo_calm b lexemes.DocumentEnd key s l o fs h e = tt
@@ -158,8 +156,8 @@ curly_solo_calm false (lexemes.Scalar style text) key s l o fs h e = tt
 pub curly_ask_done_calm :
     (b : Bool) (k : lexemes.LexemeKind) (key : Option KeyStart) (s : Scope) (l : lexemes.Lexeme) (o : OptionsData)
     (fs : List OpenFrame) → Holes fs → nat_le (blocks_open fs) o.block_nesting_limit ≡ true →
-    Calm o (X b k key s l)
-    (taken (ended_by (X b k key s l) (InFrames (FlowMappingFrame false AskDone ∷ fs))) (X b k key s l))
+    Calm o (met_as b k key s l)
+    (taken (ended_by (met_as b k key s l) (InFrames (FlowMappingFrame false AskDone ∷ fs))) (met_as b k key s l))
 curly_ask_done_calm b (lexemes.Directive directive) key s l o fs h e = tt
 curly_ask_done_calm b lexemes.DocumentStart key s l o fs h e = tt
 curly_ask_done_calm b lexemes.DocumentEnd key s l o fs h e = tt
@@ -194,9 +192,9 @@ curly_ask_done_calm false (lexemes.Scalar style text) key s l o fs h e = tt
 pub made_key_done_calm :
     (b : Bool) (k : lexemes.LexemeKind) (key : Option KeyStart) (s : Scope) (l : lexemes.Lexeme) (o : OptionsData)
     (fs : List OpenFrame) → Holes fs → nat_le (blocks_open fs) o.block_nesting_limit ≡ true →
-    Calm o (X b k key s l)
-    (taken (ended_by (X b k key s l) (InFrames (FlowMappingFrame true KeyDone ∷ FlowSequenceFrame false ∷ fs)))
-    (X b k key s l))
+    Calm o (met_as b k key s l)
+    (taken (ended_by (met_as b k key s l) (InFrames (FlowMappingFrame true KeyDone ∷ FlowSequenceFrame false ∷ fs)))
+    (met_as b k key s l))
 made_key_done_calm b (lexemes.Directive directive) key s l o fs h e = tt
 made_key_done_calm b lexemes.DocumentStart key s l o fs h e = tt
 made_key_done_calm b lexemes.DocumentEnd key s l o fs h e = tt
@@ -230,9 +228,9 @@ pub made_done_calm :
     ((is_comma_kind (terminal_kind k key) || closes_kind Square (terminal_kind k key))
     || closes_kind Curly (terminal_kind k key))
     ≡ false →
-    Calm o (X b k key s l)
-    (taken (ended_by (X b k key s l) (InFrames (FlowMappingFrame true Done ∷ FlowSequenceFrame false ∷ fs)))
-    (X b k key s l))
+    Calm o (met_as b k key s l)
+    (taken (ended_by (met_as b k key s l) (InFrames (FlowMappingFrame true Done ∷ FlowSequenceFrame false ∷ fs)))
+    (met_as b k key s l))
 made_done_calm b (lexemes.Directive directive) key s l o fs h e f = tt
 made_done_calm b lexemes.DocumentStart key s l o fs h e f = tt
 made_done_calm b lexemes.DocumentEnd key s l o fs h e f = tt
@@ -261,9 +259,9 @@ pub square_ask_done_calm :
     (b : Bool) (k : lexemes.LexemeKind) (key : Option KeyStart) (s : Scope) (l : lexemes.Lexeme) (o : OptionsData)
     (fs : List OpenFrame) → Holes fs → nat_le (blocks_open fs) o.block_nesting_limit ≡ true →
     not (is_bare_kind (terminal_kind k key)) ≡ false →
-    Calm o (X b k key s l)
-    (taken (ended_by (X b k key s l) (InFrames (FlowPairFrame AskDone ∷ FlowSequenceFrame false ∷ fs)))
-    (X b k key s l))
+    Calm o (met_as b k key s l)
+    (taken (ended_by (met_as b k key s l) (InFrames (FlowPairFrame AskDone ∷ FlowSequenceFrame false ∷ fs)))
+    (met_as b k key s l))
 square_ask_done_calm b (lexemes.Directive directive) key s l o fs h e f = cc (f)
 square_ask_done_calm b lexemes.DocumentStart key s l o fs h e f = cc (f)
 square_ask_done_calm b lexemes.DocumentEnd key s l o fs h e f = cc (f)
@@ -292,7 +290,8 @@ pub block_key_calm :
     (b : Bool) (k : lexemes.LexemeKind) (key : Option KeyStart) (s : Scope) (l : lexemes.Lexeme) (o : OptionsData)
     (c : ℕ)
     (fs : List OpenFrame) → Holes fs → nat_le (suc (blocks_open fs)) o.block_nesting_limit ≡ true →
-    Calm o (X b k key s l) (taken (ended_by (X b k key s l) (InFrames (MappingFrame c KeyDone ∷ fs))) (X b k key s l))
+    Calm o (met_as b k key s l)
+    (taken (ended_by (met_as b k key s l) (InFrames (MappingFrame c KeyDone ∷ fs))) (met_as b k key s l))
 block_key_calm b (lexemes.Directive directive) key s l o c fs h e = tt
 block_key_calm b lexemes.DocumentStart key s l o c fs h e = tt
 block_key_calm b lexemes.DocumentEnd key s l o c fs h e = tt

@@ -1,6 +1,8 @@
 -- The parser ends the frame on top where the grammar's machine does.
 use Rattle.std.proofs.Common.{◌≡◌, ℕ, suc, zero, Bool, true, false, List, refl, sym, ap, ap₂, ◌∙◌, arith, ◌==◌, ◌&&◌}
 use Rattle.std.proofs.Common.{◌||◌, not, nat_lt, Option, Some, None}
+use Rattle.std.proofs.Math.Bool.{or_comm, or-false, and-true}
+use Rattle.std.proofs.lemmas.Bool.{and_right}
 use Rattle.std.specs.Prelude.{if◌then◌else◌, is_none}
 use Rattle.std.proofs.lemmas.Bool.Decides.{nat_tests}
 use Rattle.granit_error.specs.OptionsData.{OptionsData}
@@ -49,12 +51,8 @@ past_by true false both h = refl
 past_by false true both h = refl
 past_by false false both h = refl
 
-pub and_no : (a b : Bool) → b ≡ false → (a && b) ≡ false
-and_no true b e = e
-and_no false b e = refl
-
 pub left_no_dash : (x : Terminal) (c : ℕ) → stands_left x c ≡ true → dash_in x c ≡ false
-left_no_dash x c e = and_no (is_dash_kind x.kind) (stands_in x c) (left_not_in (reach_of x.kind x.at) c e)
+left_no_dash x c e = and_right (is_dash_kind x.kind) (stands_in x c) (left_not_in (reach_of x.kind x.at) c e)
 
 turn_and : (a b : Bool) → (a && b) ≡ (b && a)
 turn_and true true = refl
@@ -62,20 +60,12 @@ turn_and true false = refl
 turn_and false true = refl
 turn_and false false = refl
 
-no_and : (a : Bool) → (a && false) ≡ false
-no_and true = refl
-no_and false = refl
-
-no_or : (a : Bool) → (a || false) ≡ a
-no_or true = refl
-no_or false = refl
-
 -- behind an entry
 entry_over :
     (loose : Bool) (left dash pair : Bool) (x : Terminal) (c : ℕ) → left ≡ stands_left x c → dash ≡ dash_in x c →
     (left || ((loose && not dash) && (true || pair))) ≡ sequence_over loose c x
 entry_over true left dash pair x c e h = past_by left dash pair (λ t. h ∙ left_no_dash x c (sym e ∙ t)) ∙ ap not h
-entry_over false left dash pair x c e h = no_or left ∙ e
+entry_over false left dash pair x c e h = or-false left ∙ e
 
 -- a `-` is no entry of a mapping
 kind_no_dash : (k : TerminalKind) (b t u : Bool) → (begins_entry_kind k b && t) ≡ true → (is_dash_kind k && u) ≡ false
@@ -148,10 +138,6 @@ Asks o right in_flow loose b key p k =
     if is_key_token (token_sort b key k) && not in_flow then right
     else goes_on_by_kind right in_flow loose (parser_properties o p) (token_sort b key k) k
 
-and_true : (a : Bool) → (a && true) ≡ a
-and_true true = refl
-and_true false = refl
-
 -- a room in a block collection: flagged parts, others, `-`, and the rest
 key_part : (r j : Bool) → r ≡ ((true && r) || ((not true && r) && j))
 key_part true j = refl
@@ -168,12 +154,6 @@ body_part false j e = refl
 no_part : (r j : Bool) → j ≡ false → false ≡ ((false && r) || ((not false && r) && j))
 no_part true j e = sym e
 no_part false j e = refl
-
-or_turn : (a b : Bool) → (a || b) ≡ (b || a)
-or_turn true true = refl
-or_turn true false = refl
-or_turn false true = refl
-or_turn false false = refl
 
 -- the grammar's test in a room right of a column, or of a value, as a test of the column
 abbrev Grows : (r loose b : Bool) → TreeProperties → TerminalKind → Bool
@@ -194,9 +174,9 @@ grows_block o r loose b key p lexemes.StreamEnd g = refl
 grows_block o r loose b key p (lexemes.Close brackets.Square) g = refl
 grows_block o r loose b key p (lexemes.Close brackets.Curly) g = refl
 grows_block o r loose b key p lexemes.Comma g = refl
-grows_block o r loose b key p lexemes.Dash g = or_turn r loose
-grows_block o r loose b key p lexemes.Question g = and_true r
-grows_block o r loose b None p lexemes.Colon g = and_true r
+grows_block o r loose b key p lexemes.Dash g = or_comm r loose
+grows_block o r loose b key p lexemes.Question g = and-true r
+grows_block o r loose b None p lexemes.Colon g = and-true r
 grows_block o r loose b (Some n) p lexemes.Colon g = refl
 grows_block o r loose true key p (lexemes.Open bracket) g = key_part r (joins p (Open bracket))
 grows_block o r loose false key p (lexemes.Open bracket) g = body_part r (joins p (Open bracket))
@@ -486,11 +466,11 @@ ends_same b s l o d st (hole (curly_value h)) f = refl
 ends_same b s l o d st (hole (made_key h)) f = absurd f
 ends_same b s l o d st (hole (made_value h)) f = (sort_is b l.key l.kind).ends
 ends_same b s l o d st (hole (pair_asked h)) f =
-    no_or (ends_entry (token_of b l).sort || false)
-    ∙ (no_or (ends_entry (token_of b l).sort) ∙ (sort_is b l.key l.kind).ends)
+    or-false (ends_entry (token_of b l).sort || false)
+    ∙ (or-false (ends_entry (token_of b l).sort) ∙ (sort_is b l.key l.kind).ends)
 ends_same b s l o d st (hole (pair_value h)) f =
-    no_or (ends_entry (token_of b l).sort || false)
-    ∙ (no_or (ends_entry (token_of b l).sort) ∙ (sort_is b l.key l.kind).ends)
+    or-false (ends_entry (token_of b l).sort || false)
+    ∙ (or-false (ends_entry (token_of b l).sort) ∙ (sort_is b l.key l.kind).ends)
 ends_same b s l o d st (behind_properties {p = p} {fs = fs} g h) f = ap not (goes_on_same o b s l p fs g h f.0 f.1)
 ends_same b s l o d st (past_entry {loose = loose} {c = c} q h) f =
     entry_over loose (ends_frame (Column b l) (one_less c))

@@ -2,14 +2,14 @@
 use Rattle.granit_agreement.specs.Good.{Holes, at_item, at_curly, curly_key, curly_asked, curly_value, made_key}
 use Rattle.granit_agreement.specs.Good.{made_value, pair_asked, pair_value}
 use Rattle.granit_agreement.specs.Stepping.{taken, at_kind}
-use Rattle.granit_language.specs.Seen.{terminal_kind, terminal_of, at_of}
+use Rattle.granit_language.specs.Seen.{terminal_kind, at_of}
 use Rattle.granit_grammar.specs.EventMachine.{Opened, Key, Asking, Value, OpenFrame, FlowSequenceFrame}
 use Rattle.granit_grammar.specs.EventMachine.{FlowMappingFrame, FlowPairFrame, InFrames, ended_by, put_frames}
 use Rattle.granit_grammar.specs.Guarded.{blocks_open}
 use Rattle.granit_language.specs.GrammarFault.{GrammarFault, UnexpectedEofImplicitFlowMapping}
 use Rattle.granit_language.specs.Node.{NoProperties}
 use Rattle.granit_language.specs.Scope.{Scope}
-use Rattle.granit_language.specs.Terminal.{Anchor, Tag, Alias, Property, Scalar, Open, Terminal, is_comma_kind}
+use Rattle.granit_language.specs.Terminal.{Anchor, Tag, Alias, Property, Scalar, Open, is_comma_kind}
 use Rattle.granit_language.specs.Terminal.{closes_kind}
 use Rattle.granit_lexemes.specs.Lexeme.{KeyStart}
 use Rattle.granit_lexemes.specs.declared.layout.Bracket.TheVariants.{Square, Curly}
@@ -19,19 +19,16 @@ use Rattle.granit_base.specs.Place.{Mark}
 use Rattle.granit_error.specs.OptionsData.{OptionsData}
 use Rattle.granit_lexemes.specs.Lexeme as lexemes
 use Rattle.granit_agreement.proofs.BlockNodes.{put_count, part_flat}
-use Rattle.granit_agreement.proofs.Views.{Flat, count_flat}
+use Rattle.granit_agreement.proofs.Views.{Flat, count_flat, met_as}
 
-abbrev X : Bool → lexemes.LexemeKind → Option KeyStart → Scope → lexemes.Lexeme → Terminal
-X b k key s l = terminal_of b s (at_kind l k key)
-
-abbrev Stop : GrammarFault
+abbrev pub Stop : GrammarFault
 Stop = UnexpectedEofImplicitFlowMapping
 
 pub item_flat :
     (b : Bool) (k : lexemes.LexemeKind) (key : Option KeyStart) (s : Scope) (l : lexemes.Lexeme) (o : OptionsData)
     (fs : List OpenFrame) → Holes fs → nat_le (blocks_open fs) o.block_nesting_limit ≡ true →
     Flat o.block_nesting_limit
-    (taken (ended_by (X b k key s l) (InFrames (FlowSequenceFrame false ∷ fs))) (X b k key s l))
+    (taken (ended_by (met_as b k key s l) (InFrames (FlowSequenceFrame false ∷ fs))) (met_as b k key s l))
 item_flat b (lexemes.Directive directive) key s l o fs h e = tt
 item_flat b lexemes.DocumentStart key s l o fs h e = tt
 item_flat b lexemes.DocumentEnd key s l o fs h e = tt
@@ -89,7 +86,7 @@ pub curly_flat :
     (b : Bool) (k : lexemes.LexemeKind) (key : Option KeyStart) (s : Scope) (l : lexemes.Lexeme) (o : OptionsData)
     (fs : List OpenFrame) → Holes fs → nat_le (blocks_open fs) o.block_nesting_limit ≡ true →
     Flat o.block_nesting_limit
-    (taken (ended_by (X b k key s l) (InFrames (FlowMappingFrame false Opened ∷ fs))) (X b k key s l))
+    (taken (ended_by (met_as b k key s l) (InFrames (FlowMappingFrame false Opened ∷ fs))) (met_as b k key s l))
 curly_flat b (lexemes.Directive directive) key s l o fs h e = tt
 curly_flat b lexemes.DocumentStart key s l o fs h e = tt
 curly_flat b lexemes.DocumentEnd key s l o fs h e = tt
@@ -145,7 +142,7 @@ pub curly_asked_flat :
     (b : Bool) (k : lexemes.LexemeKind) (key : Option KeyStart) (s : Scope) (l : lexemes.Lexeme) (o : OptionsData)
     (fs : List OpenFrame) → Holes fs → nat_le (blocks_open fs) o.block_nesting_limit ≡ true →
     Flat o.block_nesting_limit
-    (taken (ended_by (X b k key s l) (InFrames (FlowMappingFrame false Asking ∷ fs))) (X b k key s l))
+    (taken (ended_by (met_as b k key s l) (InFrames (FlowMappingFrame false Asking ∷ fs))) (met_as b k key s l))
 curly_asked_flat b (lexemes.Directive directive) key s l o fs h e = tt
 curly_asked_flat b lexemes.DocumentStart key s l o fs h e = tt
 curly_asked_flat b lexemes.DocumentEnd key s l o fs h e = tt
@@ -190,7 +187,7 @@ pub curly_value_flat :
     (w : Mark)
     (fs : List OpenFrame) → Holes fs → nat_le (blocks_open fs) o.block_nesting_limit ≡ true →
     Flat o.block_nesting_limit
-    (taken (ended_by (X b k key s l) (InFrames (FlowMappingFrame false (Value w) ∷ fs))) (X b k key s l))
+    (taken (ended_by (met_as b k key s l) (InFrames (FlowMappingFrame false (Value w) ∷ fs))) (met_as b k key s l))
 curly_value_flat b (lexemes.Directive directive) key s l o w fs h e = tt
 curly_value_flat b lexemes.DocumentStart key s l o w fs h e = tt
 curly_value_flat b lexemes.DocumentEnd key s l o w fs h e = tt
@@ -237,8 +234,8 @@ pub made_value_flat :
     || closes_kind Curly (terminal_kind k key))
     ≡ false →
     Flat o.block_nesting_limit
-    (taken (ended_by (X b k key s l) (InFrames (FlowMappingFrame true (Value w) ∷ FlowSequenceFrame false ∷ fs)))
-    (X b k key s l))
+    (taken (ended_by (met_as b k key s l) (InFrames (FlowMappingFrame true (Value w) ∷ FlowSequenceFrame false ∷ fs)))
+    (met_as b k key s l))
 made_value_flat b (lexemes.Directive directive) key s l o w fs h e f = tt
 made_value_flat b lexemes.DocumentStart key s l o w fs h e f = tt
 made_value_flat b lexemes.DocumentEnd key s l o w fs h e f = tt
@@ -280,8 +277,8 @@ pub pair_asked_flat :
     (fs : List OpenFrame) → Holes fs → nat_le (blocks_open fs) o.block_nesting_limit ≡ true →
     (is_comma_kind (terminal_kind k key) || closes_kind Square (terminal_kind k key)) ≡ false →
     Flat o.block_nesting_limit
-    (taken (ended_by (X b k key s l) (InFrames (FlowPairFrame Asking ∷ FlowSequenceFrame false ∷ fs)))
-    (X b k key s l))
+    (taken (ended_by (met_as b k key s l) (InFrames (FlowPairFrame Asking ∷ FlowSequenceFrame false ∷ fs)))
+    (met_as b k key s l))
 pair_asked_flat b (lexemes.Directive directive) key s l o fs h e f = tt
 pair_asked_flat b lexemes.DocumentStart key s l o fs h e f = tt
 pair_asked_flat b lexemes.DocumentEnd key s l o fs h e f = tt
@@ -324,8 +321,8 @@ pub pair_value_flat :
     (fs : List OpenFrame) → Holes fs → nat_le (blocks_open fs) o.block_nesting_limit ≡ true →
     (is_comma_kind (terminal_kind k key) || closes_kind Square (terminal_kind k key)) ≡ false →
     Flat o.block_nesting_limit
-    (taken (ended_by (X b k key s l) (InFrames (FlowPairFrame (Value w) ∷ FlowSequenceFrame false ∷ fs)))
-    (X b k key s l))
+    (taken (ended_by (met_as b k key s l) (InFrames (FlowPairFrame (Value w) ∷ FlowSequenceFrame false ∷ fs)))
+    (met_as b k key s l))
 pair_value_flat b (lexemes.Directive directive) key s l o w fs h e f = tt
 pair_value_flat b lexemes.DocumentStart key s l o w fs h e f = tt
 pair_value_flat b lexemes.DocumentEnd key s l o w fs h e f = tt

@@ -5,7 +5,6 @@ use Rattle.granit_agreement.specs.Stepping.{MeansView}
 use Rattle.granit_language.specs.Seen.{terminal_kind}
 use Rattle.granit_grammar.specs.EventMachine.{Opened, Key, Asking, Value, OpenFrame, PropertiesFrame, FlowSequenceFrame}
 use Rattle.granit_grammar.specs.EventMachine.{FlowMappingFrame, FlowPairFrame, EventState, InFrames, GoesTo, put_frames}
-use Rattle.granit_language.specs.GrammarFault.{GrammarFault, UnexpectedEofImplicitFlowMapping}
 use Rattle.granit_language.specs.Node.{NoProperties, One}
 use Rattle.granit_language.specs.Terminal.{Tag, is_comma_kind, closes_kind}
 use Rattle.granit_language.specs.TreeEvents.{TreeEvent, alias_event, pair_start}
@@ -27,14 +26,12 @@ use Rattle.granit_lexemes.specs.Outcome.{Fault}
 use Rattle.granit_base.specs.declared.style.StructureStyle.TheVariants.{Flow}
 use Rattle.granit_machine.specs.Frames as machine
 use Rattle.granit_agreement.proofs.Arrivals.{Arrival, arriving, arriving_token, beside_at, parser_at, StepsM}
+use Rattle.granit_agreement.proofs.FlowFlats.{Stop}
 use Rattle.granit_agreement.proofs.Pops.{flushed}
 use Rattle.granit_agreement.proofs.PartSteps.{scalar_parts, square_parts, curly_parts, anchor_parts, tag_parts}
 use Rattle.granit_agreement.proofs.PartSteps.{alias_parts}
 use Rattle.granit_agreement.proofs.Standing.{finish_view}
 use Rattle.granit_lexemes.specs.declared.layout.Bracket.TheVariants as brackets
-
-abbrev Stop : GrammarFault
-Stop = UnexpectedEofImplicitFlowMapping
 
 -- behind the start of the pair that a simple key begins
 abbrev pair_begun : Arrival → Arrival

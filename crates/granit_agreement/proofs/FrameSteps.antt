@@ -15,6 +15,7 @@ use Rattle.granit_lexemes.specs.Lexeme.{KeyStart}
 use Rattle.granit_machine.specs.Frames.{ParserState}
 use Rattle.granit_machine.specs.Parser.{take_token}
 use Rattle.std.proofs.Common.{◌≡◌, Bool, true, false, List, Option, Result, Ok, Err}
+use Rattle.std.proofs.lemmas.Bool.{or_from}
 use Rattle.std.specs.Prelude.{nat_le}
 use Rattle.granit_error.specs.OptionsData.{OptionsData}
 use Rattle.granit_lexemes.specs.Outcome.{Fault}
@@ -29,7 +30,7 @@ use Rattle.granit_agreement.proofs.DoneSteps as done
 use Rattle.granit_agreement.proofs.FlowFlats.{item_flat, curly_flat, curly_asked_flat, curly_value_flat}
 use Rattle.granit_agreement.proofs.FlowFlats.{made_value_flat, pair_asked_flat, pair_value_flat}
 use Rattle.granit_agreement.proofs.FlowNodes as flow
-use Rattle.granit_agreement.proofs.MappingPlaces.{mapping_steps, asking, asked, valued, paired, both_false}
+use Rattle.granit_agreement.proofs.MappingPlaces.{mapping_steps, asking, asked, valued, paired}
 use Rattle.granit_agreement.proofs.MoreSteps.{made_done_steps, square_asked_steps}
 use Rattle.granit_agreement.proofs.SequencePlaces.{root_steps, entry_steps, past_steps}
 use Rattle.granit_agreement.proofs.Views.{Flat, means_limited}
@@ -91,8 +92,8 @@ frame_steps b k key a fs (hole (curly_value {w = w} {fs = gs} h)) f n e =
     (curly_value_flat b k key a.scope a.lexeme a.options w gs h e)
 frame_steps b k key a fs (hole (made_key h)) f n e = absurd f
 frame_steps b k key a fs (hole (made_value {w = w} {fs = gs} h)) f n e =
-    flat_step b k key a fs (flow.made_value_steps w b k key a gs h (both_false _ _ n f))
-    (made_value_flat b k key a.scope a.lexeme a.options w gs h e (both_false _ _ n f))
+    flat_step b k key a fs (flow.made_value_steps w b k key a gs h (or_from _ _ n f))
+    (made_value_flat b k key a.scope a.lexeme a.options w gs h e (or_from _ _ n f))
 frame_steps b k key a fs (hole (pair_asked {fs = gs} h)) f n e =
     flat_step b k key a fs (flow.pair_asked_steps b k key a gs h n)
     (pair_asked_flat b k key a.scope a.lexeme a.options gs h e n)
@@ -130,8 +131,8 @@ frame_steps b k key a fs (made_key_done {fs = gs} h) f n e =
     (made_key_done_calm b k key a.scope a.lexeme a.options gs h e)
 frame_steps b k key a fs (made_done {fs = gs} h) f n e =
     calm_step b k key a fs
-    (made_done_steps b k key a.scope a.lexeme a.options (beside_at a) gs h (both_false _ _ n f))
-    (made_done_calm b k key a.scope a.lexeme a.options gs h e (both_false _ _ n f))
+    (made_done_steps b k key a.scope a.lexeme a.options (beside_at a) gs h (or_from _ _ n f))
+    (made_done_calm b k key a.scope a.lexeme a.options gs h e (or_from _ _ n f))
 frame_steps b k key a fs (square_ask_done {fs = gs} h) f n e =
     calm_step b k key a fs (square_asked_steps b k key a.scope a.lexeme a.options (beside_at a) gs h n)
     (square_ask_done_calm b k key a.scope a.lexeme a.options gs h e n)

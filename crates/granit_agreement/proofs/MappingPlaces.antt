@@ -29,6 +29,7 @@ use Rattle.granit_machine.specs.TokenSort.{token_of, token_sort, begins_node, is
 use Rattle.granit_machine.specs.TokenSort.{is_right_of, DashToken}
 use Rattle.std.proofs.Common.{◌≡◌, ℕ, suc, Bool, true, false, ◌||◌, ◌&&◌, not, List, [], ◌∷◌, refl, sym, ap, ap₂, ◌∙◌}
 use Rattle.std.proofs.Common.{subst, Option, Some, None, Result, Err}
+use Rattle.std.proofs.lemmas.Bool.{or_from}
 use Rattle.std.specs.Prelude.{nat_le, if◌then◌else◌}
 use Rattle.granit_base.specs.Place.{Mark}
 use Rattle.granit_lexemes.specs.Outcome.{Fault}
@@ -521,10 +522,6 @@ node_valued b lexemes.Dash key a c w fs a_dash p h e =
     (begins_right DashToken a.lexeme.start.place.column c p)))
     (dash_tested b key a NoProperties (MappingFrame c (Value w) ∷ fs) (at_value p h) value_hole)
 
-pub both_false : (a b : Bool) → a ≡ false → b ≡ false → (a || b) ≡ false
-both_false true b e f = e
-both_false false b e f = f
-
 rest_given :
     (b : Bool) (k : lexemes.LexemeKind) (key : Option KeyStart) (a : Arrival) (c : ℕ) (at : PairAt)
     (fs : List OpenFrame) → Between at → IsPositive c →
@@ -536,14 +533,14 @@ rest_given b k key a c at fs asking p h f e q =
     (sym
     (stays_taken (stands_left (arriving b k key a) c || entry_in (arriving b k key a) c)
     (nothing_frames (arriving b k key a) (MappingFrame c Asking ∷ fs)) (In c Asking fs) (arriving b k key a)
-    (both_false _ _ f e)))
+    (or_from _ _ f e)))
     (node_asked b k key a c fs (dash_or b key k) p h q)
 rest_given b k key a c at fs (valued {w = w}) p h f e q =
     subst (LimitView a.options (arriving b k key a) (beside_at a) (Rest b k key a c (Value w) fs))
     (sym
     (stays_taken (stands_left (arriving b k key a) c || entry_in (arriving b k key a) c)
     (nothing_frames (arriving b k key a) (MappingFrame c (Value w) ∷ fs)) (In c (Value w) fs) (arriving b k key a)
-    (both_false _ _ f e)))
+    (or_from _ _ f e)))
     (node_valued b k key a c w fs (dash_or b key k) p h q)
 rest_given b k key a c at fs asked p h f e q =
     subst (LimitView a.options (arriving b k key a) (beside_at a) (Rest b k key a c AskDone fs))

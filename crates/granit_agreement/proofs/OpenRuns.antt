@@ -9,7 +9,6 @@ use Rattle.granit_agreement.specs.Good.{Good, is_fresh}
 use Rattle.granit_agreement.specs.Running.{Knows, ParserSeen, ComesTo, NextView, FairNext, FairRun}
 use Rattle.granit_agreement.specs.Stepping.{taken, at_kind}
 use Rattle.granit_agreement.specs.View.{Beside, item_of, state_of, waiting_of}
-use Rattle.granit_agreement.proofs.StageSteps.{none_open}
 use Rattle.granit_agreement.proofs.WholeRuns.{told_append, give_told, seen_given, Emptied, Fed, Cleared, fed_ok, fed_is}
 use Rattle.granit_agreement.proofs.WholeRuns.{seen_cleared, knows_cleared, fault_passed, none_stay}
 use Rattle.granit_agreement.proofs.WholeSteps.{step_next}
@@ -22,6 +21,7 @@ use Rattle.granit_grammar.specs.TreeMachine.{NextPlace, take, TreeAnswer, ReadAs
 use Rattle.granit_grammar.specs.TreeMachine.{parse, tree_start}
 use Rattle.granit_grammar.proofs.AgreeClose.{ending_state, ending_events, close_agrees}
 use Rattle.granit_grammar.proofs.AgreeStep.{StepsTo, goes_to, stops_at, take_agrees}
+use Rattle.granit_grammar.proofs.Limit.{from_zero}
 use Rattle.granit_grammar.proofs.Placing.{Tells, one_cut}
 use Rattle.granit_language.specs.FaultKinds.{fault_kind_at}
 use Rattle.granit_language.specs.GrammarFault.{GrammarFault, TooManyBlocks}
@@ -37,6 +37,7 @@ use Rattle.granit_language.specs.TreeEvents.{StreamStarts, TreeEvent, pointed, s
 use Rattle.granit_lexemes.specs.Outcome.{Fault, ◌>>=◌}
 use Rattle.granit_lexemes.specs.Pieces.{with_front}
 use Rattle.granit_lexemes.specs.PlainEvent.{PlainEvent, StreamStart, event_on}
+use Rattle.granit_machine.proofs.ClosingLemmas.{FeedGiven}
 use Rattle.granit_machine.specs.Closing.{close}
 use Rattle.granit_machine.specs.Frames.{ParserState, Waiting, parser_start}
 use Rattle.granit_machine.specs.Machine.{feed_all}
@@ -139,9 +140,6 @@ follows (x ∷ xs) p f i g =
     (λ more. a.gives more ∙ g x.at.start (ending_events (ended_by x (state_at p)) ++ more))
 
 -- ---- the parser comes to it
-
-abbrev FeedGiven : Type 0
-FeedGiven = Result (List PlainEvent × ParserState) Fault
 
 abbrev Lands : OptionsData → FeedGiven → Ran → Type 0
 Lands o (Ok y) (Some z) = (y.0 ≡ events_told o z.0) × (d : Beside) × ParserSeen o z.1 y.1 d
@@ -294,4 +292,4 @@ fed_left o m fs gs p fair e =
     (subst (λ (r : FeedGiven). Lands o r (ran xs IsFresh)) e
     (lands o fs no_scope IsFresh (record { last = m; count = 0; names = []; handles = []; kept = []; given = [] })
     (parser_start m)
-    is_fresh (refl, refl, refl, refl, refl, none_stay o.keep_tags) (none_open o.block_nesting_limit) refl fair refl))
+    is_fresh (refl, refl, refl, refl, refl, none_stay o.keep_tags) (from_zero o.block_nesting_limit) refl fair refl))

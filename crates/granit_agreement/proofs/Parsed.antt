@@ -2,7 +2,7 @@
 use Rattle.granit_agreement.specs.Running.{FairRun, RunView, ParsedAs, GivesTold}
 use Rattle.granit_agreement.specs.View.{item_of}
 use Rattle.granit_language.specs.Seen.{Flagged, terminal_seen}
-use Rattle.granit_grammar.specs.EventMachine.{EventAnswer, Events, Faulty, Unfinished, events_before, IsFresh}
+use Rattle.granit_grammar.specs.EventMachine.{EventAnswer, Events, Faulty, Unfinished, IsFresh}
 use Rattle.granit_grammar.specs.Guarded.{guarded, whole_guard, whole_run}
 use Rattle.granit_language.specs.GrammarFault.{GrammarFault, fault_of}
 use Rattle.granit_language.specs.Scope.{no_scope}
@@ -18,14 +18,11 @@ use Rattle.granit_base.specs.Place.{Mark}
 use Rattle.granit_error.specs.OptionsData.{OptionsData}
 use Rattle.granit_lexemes.specs.Outcome.{Fault}
 use Rattle.granit_lexemes.specs.PlainEvent.{PlainEvent, StreamStart, event_on}
-use Rattle.granit_grammar.proofs.Wholes.{whole_events, whole_streams, whole_faults, whole_never_unfinished}
+use Rattle.granit_grammar.proofs.Wholes.{whole_events, whole_streams, whole_faults, whole_never_unfinished, Starts}
 use Rattle.granit_grammar.proofs.Wholes.{whole_viable}
 use Rattle.granit_grammar.proofs.Guards.{NotFaulty}
 use Rattle.granit_grammar.proofs.OneWhole.{viable_blocked, whole_faults_told}
 use Rattle.granit_agreement.proofs.WholeRuns.{run_agrees}
-
-abbrev Fully : EventAnswer → EventAnswer
-Fully a = events_before (pointed StreamStarts text_start ∷ []) a
 
 abbrev Guards : OptionsData → List Terminal → EventAnswer
 Guards o xs = guarded (whole_guard o) (scoped no_scope xs) IsFresh
@@ -35,11 +32,11 @@ events_by :
     xs ≡ ys ++ (terminal TheEnd i ∷ []) → Guards o xs ≡ a → RunView o (Ok (gs, p)) a → ParsedAs o xs gs
 events_by o xs ys i gs p (Events es) n e h = (
   pointed StreamStarts text_start ∷ es,
-  whole_events o xs (pointed StreamStarts text_start ∷ es) (ap Fully e),
+  whole_events o xs (pointed StreamStarts text_start ∷ es) (ap Starts e),
   ap (λ gs. event_on StreamStart text_start ∷ gs) (sym h),
 )
 events_by o xs ys i gs p Unfinished n e h =
-    absurd (whole_never_unfinished o ys i (ap (whole_run o) (sym n) ∙ ap Fully e))
+    absurd (whole_never_unfinished o ys i (ap (whole_run o) (sym n) ∙ ap Starts e))
 events_by o xs ys i gs p (Faulty k x) n e h = absurd h
 
 pub parsed_events :
@@ -53,7 +50,7 @@ parsed_events o m fs ys i gs p fair n e =
 faults_by :
     (o : OptionsData) (xs : List Terminal) (f : Fault) (a : EventAnswer) → Guards o xs ≡ a → RunView o (Err f) a →
     (k : GrammarFault) × (x : Terminal) × WholeFault o xs k x × (f ≡ fault_of k x)
-faults_by o xs f (Faulty k x) e h = (k, x, whole_faults o xs k x (ap Fully e), h)
+faults_by o xs f (Faulty k x) e h = (k, x, whole_faults o xs k x (ap Starts e), h)
 faults_by o xs f (Events es) e h = absurd h
 faults_by o xs f Unfinished e h = absurd h
 
@@ -70,7 +67,7 @@ events_same es more e = cc (e)
 
 told_by :
     (o : OptionsData) (es : List TreeEvent) (r : Result (List PlainEvent × ParserState) Fault) (a : EventAnswer) →
-    Fully a ≡ Events es → RunView o r a → GivesTold o es r
+    Starts a ≡ Events es → RunView o r a → GivesTold o es r
 told_by o es (Ok y) (Events more) e h =
     subst (λ es. events_told o es ≡ event_on StreamStart text_start ∷ y.0)
     (events_same (pointed StreamStarts text_start ∷ more) es e)
@@ -90,7 +87,7 @@ readings_parsed o m fs es fair r =
 
 not_faulty_by :
     (o : OptionsData) (xs : List Terminal) (y : List PlainEvent × ParserState) (a : EventAnswer) → RunView o (Ok y) a →
-    NotFaulty (Fully a)
+    NotFaulty (Starts a)
 not_faulty_by o xs y (Events es) h = tt
 not_faulty_by o xs y Unfinished h = tt
 not_faulty_by o xs y (Faulty k x) h = absurd h
@@ -105,7 +102,7 @@ parsed_viable o m fs y fair e =
 
 fault_by :
     (o : OptionsData) (k : GrammarFault) (x : Terminal) (r : Result (List PlainEvent × ParserState) Fault)
-    (a : EventAnswer) → Fully a ≡ Faulty k x → RunView o r a → r ≡ Err (fault_of k x)
+    (a : EventAnswer) → Starts a ≡ Faulty k x → RunView o r a → r ≡ Err (fault_of k x)
 fault_by o k x (Err f) (Faulty j y) e h = ap (λ f. Err f) (h ∙ same_fault j k y x e)
   where
     same_fault : (j k : GrammarFault) (y x : Terminal) → Faulty j y ≡ Faulty k x → fault_of j y ≡ fault_of k x

@@ -3,6 +3,7 @@ use Rattle.granit_agreement.specs.Fair.{frame_ends_at}
 use Rattle.granit_agreement.specs.Good.{Holes, at_root, at_entry, IsPositive}
 use Rattle.granit_agreement.specs.Stepping.{taken, LimitView, at_kind}
 use Rattle.granit_language.specs.Seen.{terminal_kind}
+use Rattle.granit_grammar.proofs.Tests.{same_left}
 use Rattle.granit_grammar.specs.EventMachine.{OpenFrame, DocumentFrame, SequenceFrame, EventState, InFrames, Ending}
 use Rattle.granit_grammar.specs.EventMachine.{ending, with_event, finish_frames, frames_empty, nothing_frames, GoesTo}
 use Rattle.granit_grammar.specs.EventMachine.{StopsWith, after_events, if_gives, take_frames, want_frames}
@@ -233,9 +234,6 @@ entry_is_empty true dash both e = refl
 entry_is_empty false true both e = refl
 entry_is_empty false false both e = cc (e)
 
-pub same_not_left : (m c : ℕ) → (m == c) ≡ true → nat_lt m c ≡ false
-same_not_left m c e = grind (arith, nat_tests)
-
 entry_dash :
     (b : Bool) (key : Option KeyStart) (a : Arrival) (loose : Bool) (c : ℕ) (w : Mark) (fs : List OpenFrame) →
     IsPositive c → Holes fs → stands_in (arriving b lexemes.Dash key a) c ≡ true →
@@ -251,7 +249,7 @@ entry_dash b key a loose c w fs p h n e =
     (with_event (pointed SequenceEnds a.lexeme.start) (finish_frames (arriving b lexemes.Dash key a) a.lexeme.start fs))
     (entry_is_empty (stands_left (arriving b lexemes.Dash key a) c) (dash_in (arriving b lexemes.Dash key a) c)
     (loose && entry_in (arriving b lexemes.Dash key a) c) n)
-    (sequence_goes_on loose c (arriving b lexemes.Dash key a) n (same_not_left (suc a.lexeme.start.place.column) c n))
+    (sequence_goes_on loose c (arriving b lexemes.Dash key a) n (same_left (suc a.lexeme.start.place.column) c n))
     refl
     ∙ ap
     (λ r.

@@ -3,7 +3,8 @@ use Rattle.granit_agreement.specs.Good.{hole, at_root, is_fresh, directed}
 use Rattle.granit_agreement.specs.Running.{Knows, NextView}
 use Rattle.granit_agreement.specs.Stepping.{taken, LimitView, at_kind, knowing, staying}
 use Rattle.granit_agreement.specs.View.{Beside, state_of, give_all}
-use Rattle.granit_language.specs.Seen.{terminal_kind, terminal_of, at_of, indent_of}
+use Rattle.granit_language.specs.Seen.{terminal_kind, at_of, indent_of}
+use Rattle.granit_grammar.proofs.Limit.{from_zero}
 use Rattle.granit_grammar.specs.EventMachine.{OpenFrame, DocumentFrame, EventState, IsFresh, HasDirectives, IsRooted}
 use Rattle.granit_grammar.specs.EventMachine.{InFrames, ended_by, EventStep, GoesTo, StopsWith, after_events}
 use Rattle.granit_grammar.specs.EventMachine.{take_frames, want_frames}
@@ -24,9 +25,8 @@ use Rattle.granit_machine.specs.NodeSteps.{Stepped}
 use Rattle.granit_machine.specs.Parser.{take_token}
 use Rattle.granit_machine.specs.StreamSteps.{bare_start, begin_document, with_directive, with_handle}
 use Rattle.granit_machine.specs.TokenSort.{token_of, token_sort, begins_node}
-use Rattle.std.proofs.Common.{◌≡◌, ℕ, Bool, true, false, arith, ◌==◌, List, [], ◌∷◌, ◌++◌, refl, sym, ap, ap₂, ◌∙◌}
+use Rattle.std.proofs.Common.{◌≡◌, ℕ, Bool, true, false, ◌==◌, List, [], ◌∷◌, ◌++◌, refl, sym, ap, ap₂, ◌∙◌}
 use Rattle.std.proofs.Common.{subst, Option, Some, None, Ok, Err}
-use Rattle.std.proofs.lemmas.Bool.Decides.{nat_tests}
 use Rattle.std.specs.Prelude.{nat_le, if◌then◌else◌}
 use Rattle.granit_base.specs.Place.{Mark}
 use Rattle.granit_error.specs.OptionsData.{OptionsData}
@@ -44,24 +44,18 @@ use Rattle.granit_agreement.proofs.Lookups.{found_in_order}
 use Rattle.granit_agreement.specs.Ordered.{ordered}
 use Rattle.granit_machine.specs.Entries.{lookup_text, remembered}
 use Rattle.granit_agreement.proofs.SequencePlaces.{root_by}
-use Rattle.granit_agreement.proofs.Views.{after_nothing, events_before}
-
-abbrev X : Bool → lexemes.LexemeKind → Option KeyStart → Scope → lexemes.Lexeme → Terminal
-X b k key s l = terminal_of b s (at_kind l k key)
-
-pub none_open : (n : ℕ) → nat_le 0 n ≡ true
-none_open n = grind (arith, nat_tests)
+use Rattle.granit_agreement.proofs.Views.{after_nothing, events_before, met_as}
 
 -- no block collection is open around documents, so that only what stands declared refuses
 guarded_by :
     (n : ℕ) (k : GrammarFault) (f : Option GrammarFault) → first_fault (fault_unless (nat_le 0 n) k) f ≡ f
-guarded_by n k f = ap (λ b. first_fault (fault_unless b k) f) (none_open n)
+guarded_by n k f = ap (λ b. first_fault (fault_unless b k) f) (from_zero n)
 
 abbrev StageView :
     Bool → lexemes.LexemeKind → Option KeyStart → Scope → lexemes.Lexeme → OptionsData → Beside → EventState → Type 0
 StageView b k key s l o d st =
-    NextView o (X b k key s l) s d.given (take_token o (token_of b (at_kind l k key)) (state_of o st d))
-    (taken (ended_by (X b k key s l) st) (X b k key s l))
+    NextView o (met_as b k key s l) s d.given (take_token o (token_of b (at_kind l k key)) (state_of o st d))
+    (taken (ended_by (met_as b k key s l) st) (met_as b k key s l))
 
 -- ---- directives
 
@@ -74,7 +68,7 @@ abbrev Then :
     Bool → DirectiveKind → Option KeyStart → Scope → lexemes.Lexeme → OptionsData → Option (ℕ × ℕ) → Beside →
     Stepped → Type 0
 Then b c key s l o v d r =
-    NextView o (X b (lexemes.Directive c) key s l) s d.given r
+    NextView o (met_as b (lexemes.Directive c) key s l) s d.given r
     (take_frames (HasDirectives v) (Directive c) (at_of b s (at_kind l (lexemes.Directive c) key)))
 
 version_by :
@@ -87,7 +81,7 @@ version_by b major minor key s l o d true e c h v k =
     (ap
     (λ q.
     if q then Ok (state_of o (HasDirectives (Some (major, minor))) d)
-    else Err (fault_of UnsupportedYamlMajorVersion (X b (lexemes.Directive (Version major minor)) key s l)))
+    else Err (fault_of UnsupportedYamlMajorVersion (met_as b (lexemes.Directive (Version major minor)) key s l)))
     e))
     (record {
       beside = d;
@@ -105,7 +99,7 @@ version_by b major minor key s l o d false e c h v k =
     (ap
     (λ q.
     if q then Ok (state_of o (HasDirectives (Some (major, minor))) d)
-    else Err (fault_of UnsupportedYamlMajorVersion (X b (lexemes.Directive (Version major minor)) key s l)))
+    else Err (fault_of UnsupportedYamlMajorVersion (met_as b (lexemes.Directive (Version major minor)) key s l)))
     e)) (
       UnsupportedYamlMajorVersion,
       guarded_by o.block_nesting_limit _ _
@@ -379,49 +373,49 @@ err_before o x d c f es (StopsWith k) h = h
 fresh_by :
     (b : Bool) (k : lexemes.LexemeKind) (key : Option KeyStart) (s : Scope) (l : lexemes.Lexeme) (o : OptionsData)
     (d : Beside) (begins : Bool) → Knows o IsFresh s d → begins_node (token_sort b key k) ≡ begins →
-    LimitView o (X b k key s l) (knowing o s (BareAt b k key l).span.end (d.given ++ BareAt b k key l ∷ []))
+    LimitView o (met_as b k key s l) (knowing o s (BareAt b k key l).span.end (d.given ++ BareAt b k key l ∷ []))
     (Tested begins (NodeFrom b k key l o (knowing o s (BareAt b k key l).span.end (d.given ++ BareAt b k key l ∷ [])))
-    UnexpectedEofBlockSequence (X b k key s l))
+    UnexpectedEofBlockSequence (met_as b k key s l))
     (want_frames Root NoProperties (terminal_kind k key) (at_of b s (at_kind l k key))) →
-    LimitView o (X b k key s l) (knowing o s l.start d.given)
-    (Tested begins (NodeFrom b k key l o (Begun b k key l d)) UnexpectedEofBlockSequence (X b k key s l))
+    LimitView o (met_as b k key s l) (knowing o s l.start d.given)
+    (Tested begins (NodeFrom b k key l o (Begun b k key l d)) UnexpectedEofBlockSequence (met_as b k key s l))
     (after_events (BareEvent b k key s l ∷ [])
     (want_frames Root NoProperties (terminal_kind k key) (at_of b s (at_kind l k key))))
 fresh_by b k key s l o d true w e h =
     subst
     (λ c.
-    LimitView o (X b k key s l) (knowing o s l.start d.given) (NodeFrom b k key l o c)
+    LimitView o (met_as b k key s l) (knowing o s l.start d.given) (NodeFrom b k key l o c)
     (after_events (BareEvent b k key s l ∷ [])
     (want_frames Root NoProperties (terminal_kind k key) (at_of b s (at_kind l k key)))))
     (sym (begun_knows o b k key s l d w))
-    (events_before o (X b k key s l) s (BareAt b k key l).span.end l.start d.given (BareEvent b k key s l ∷ [])
+    (events_before o (met_as b k key s l) s (BareAt b k key l).span.end l.start d.given (BareEvent b k key s l ∷ [])
     (NodeFrom b k key l o (knowing o s (BareAt b k key l).span.end (d.given ++ BareAt b k key l ∷ [])))
     (want_frames Root NoProperties (terminal_kind k key) (at_of b s (at_kind l k key)))
     (subst
     (λ es.
-    LimitView o (X b k key s l) (knowing o s (BareAt b k key l).span.end (d.given ++ es))
+    LimitView o (met_as b k key s l) (knowing o s (BareAt b k key l).span.end (d.given ++ es))
     (NodeFrom b k key l o (knowing o s (BareAt b k key l).span.end (d.given ++ BareAt b k key l ∷ [])))
     (want_frames Root NoProperties (terminal_kind k key) (at_of b s (at_kind l k key))))
     (sym (bare_same b k key s l o e)) h))
 fresh_by b k key s l o d false w e h =
-    err_before o (X b k key s l) (knowing o s (BareAt b k key l).span.end (d.given ++ BareAt b k key l ∷ []))
-    (knowing o s l.start d.given) (fault_of UnexpectedEofBlockSequence (X b k key s l))
+    err_before o (met_as b k key s l) (knowing o s (BareAt b k key l).span.end (d.given ++ BareAt b k key l ∷ []))
+    (knowing o s l.start d.given) (fault_of UnexpectedEofBlockSequence (met_as b k key s l))
     (BareEvent b k key s l ∷ [])
     (want_frames Root NoProperties (terminal_kind k key) (at_of b s (at_kind l k key))) h
 
 fresh_other :
     (b : Bool) (k : lexemes.LexemeKind) (key : Option KeyStart) (s : Scope) (l : lexemes.Lexeme) (o : OptionsData)
     (d : Beside) → Knows o IsFresh s d → is_stream_kind (terminal_kind k key) ≡ false →
-    NextView o (X b k key s l) s d.given (begin_document o (token_of b (at_kind l k key)) (state_of o IsFresh d))
+    NextView o (met_as b k key s l) s d.given (begin_document o (token_of b (at_kind l k key)) (state_of o IsFresh d))
     (after_events []
     (after_events (BareEvent b k key s l ∷ [])
     (want_frames Root NoProperties (terminal_kind k key) (at_of b s (at_kind l k key)))))
 fresh_other b k key s l o d w n =
     subst
-    (NextView o (X b k key s l) s d.given (begin_document o (token_of b (at_kind l k key)) (state_of o IsFresh d)))
+    (NextView o (met_as b k key s l) s d.given (begin_document o (token_of b (at_kind l k key)) (state_of o IsFresh d)))
     (sym (after_nothing (after_events (BareEvent b k key s l ∷ [])
     (want_frames Root NoProperties (terminal_kind k key) (at_of b s (at_kind l k key))))))
-    (limit_next o (X b k key s l) s l.start d.given
+    (limit_next o (met_as b k key s l) s l.start d.given
     (begin_document o (token_of b (at_kind l k key)) (state_of o IsFresh d))
     (after_events (BareEvent b k key s l ∷ [])
     (want_frames Root NoProperties (terminal_kind k key) (at_of b s (at_kind l k key))))
@@ -434,7 +428,7 @@ fresh_other b k key s l o d w n =
       last = (BareAt b k key l).span.end;
       given = d.given ++ BareAt b k key l ∷ [];
     })
-    None (dash_or b key k) (none_open o.block_nesting_limit)))
+    None (dash_or b key k) (from_zero o.block_nesting_limit)))
     (after_step (BareEvent b k key s l ∷ [])
     (want_frames Root NoProperties (terminal_kind k key) (at_of b s (at_kind l k key)))
     (want_stands Root NoProperties (terminal_kind k key) (at_of b s (at_kind l k key)) at_root))

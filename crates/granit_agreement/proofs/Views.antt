@@ -1,19 +1,23 @@
 -- How views of steps are carried: an event before, and the limit of block collections.
-use Rattle.granit_agreement.specs.Stepping.{MeansView, LimitView, knowing, known_behind, moved_on}
+use Rattle.granit_agreement.specs.Stepping.{MeansView, LimitView, knowing, known_behind, moved_on, at_kind}
 use Rattle.granit_agreement.specs.View.{Beside, state_of, give_all}
 use Rattle.granit_grammar.specs.EventMachine.{EventState, EventStep, GoesTo, StopsWith, after_events}
 use Rattle.granit_grammar.specs.Guarded.{limit_fault, fault_unless, first_fault, state_count, is_loose}
 use Rattle.granit_language.specs.GrammarFault.{TooManyBlocks}
 use Rattle.granit_language.specs.Scope.{Scope}
 use Rattle.granit_language.specs.Scoping.{scope_fault}
+use Rattle.granit_language.specs.Seen.{terminal_of}
 use Rattle.granit_language.specs.Telling.{event_told}
 use Rattle.granit_language.specs.Terminal.{Anchor, Tag, Alias, Property, Scalar, Open, TerminalKind, Part, Terminal}
 use Rattle.granit_language.specs.TreeEvents.{TreeEvent}
 use Rattle.granit_machine.specs.Frames.{ParserState}
-use Rattle.std.proofs.Common.{◌≡◌, ℕ, true, List, [], ◌∷◌, ◌++◌, refl, sym, ap, ◌∙◌, None, Result, Ok, Err}
+use Rattle.std.proofs.Common.{◌≡◌, ℕ, true, List, [], ◌∷◌, ◌++◌, refl, sym, ap, ◌∙◌, None, Result, Ok, Err, Bool}
+use Rattle.std.proofs.Common.{Option}
 use Rattle.std.specs.Prelude.{nat_le}
 use Rattle.granit_base.specs.Place.{Mark}
 use Rattle.granit_error.specs.OptionsData.{OptionsData}
+use Rattle.granit_lexemes.specs.Lexeme.{LexemeKind, Lexeme}
+use Rattle.granit_lexemes.specs.Lexeme.{KeyStart}
 use Rattle.granit_lexemes.specs.Outcome.{Fault}
 use Rattle.granit_agreement.proofs.Closes.{give_append}
 use Rattle.granit_lexemes.specs.PlainEvent.{PlainEvent}
@@ -90,3 +94,6 @@ events_before o x s a last given es (Ok p) (GoesTo st more) h = (
 events_before o x s a last given es (Err f) (GoesTo st more) h = h
 events_before o x s a last given es (Ok p) (StopsWith k) h = h
 events_before o x s a last given es (Err f) (StopsWith k) h = h
+
+abbrev pub met_as : Bool → LexemeKind → Option KeyStart → Scope → Lexeme → Terminal
+met_as b k key s l = terminal_of b s (at_kind l k key)

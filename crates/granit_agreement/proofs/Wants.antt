@@ -28,7 +28,7 @@ hole_column (SequenceFrame loose c w ∷ fs) = c
 hole_column (MappingFrame c at ∷ fs) = c
 hole_column fs = 0
 
-abbrev RoomOf : TreeProperties → List OpenFrame → Room
+abbrev pub RoomOf : TreeProperties → List OpenFrame → Room
 RoomOf p fs = room_behind p (frames_room fs)
 
 pub right_is :

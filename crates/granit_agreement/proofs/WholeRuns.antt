@@ -32,7 +32,7 @@ use Rattle.granit_lexemes.specs.Pieces.{with_front}
 use Rattle.granit_lexemes.specs.PlainEvent.{PlainEvent}
 use Rattle.granit_lexemes.specs.Lexeme as lexemes
 use Rattle.granit_grammar.proofs.Guards.{before_before}
-use Rattle.granit_agreement.proofs.StageSteps.{none_open}
+use Rattle.granit_grammar.proofs.Limit.{from_zero}
 use Rattle.granit_agreement.proofs.WholeSteps.{step_next}
 
 -- ---- events
@@ -241,4 +241,4 @@ pub run_agrees :
 run_agrees o m fs fair =
     runs o fs no_scope IsFresh (record { last = m; count = 0; names = []; handles = []; kept = []; given = [] })
     (parser_start m)
-    is_fresh (refl, refl, refl, refl, refl, none_stay o.keep_tags) (none_open o.block_nesting_limit) refl fair refl
+    is_fresh (refl, refl, refl, refl, refl, none_stay o.keep_tags) (from_zero o.block_nesting_limit) refl fair refl

@@ -5,7 +5,6 @@ use Rattle.granit_agreement.specs.Good.{Good}
 use Rattle.granit_agreement.specs.Running.{Knows, NextView}
 use Rattle.granit_agreement.specs.Stepping.{taken, at_kind}
 use Rattle.granit_agreement.specs.View.{Beside, state_of, give_all, with_given}
-use Rattle.granit_language.specs.Seen.{terminal_of}
 use Rattle.granit_grammar.specs.EventMachine.{OpenFrame, EventState, IsFresh, HasDirectives, IsRooted, InFrames}
 use Rattle.granit_grammar.specs.EventMachine.{IsEnded, Ending, ending, with_event, ended_by, EventStep, GoesTo}
 use Rattle.granit_grammar.specs.EventMachine.{StopsWith, after_events, take_frames}
@@ -29,10 +28,7 @@ use Rattle.granit_lexemes.specs.Lexeme as lexemes
 use Rattle.granit_agreement.proofs.Closes.{close_agrees, give_append, no_more_through}
 use Rattle.granit_agreement.proofs.FrameNexts.{frame_next}
 use Rattle.granit_agreement.proofs.StageSteps.{fresh_next, directed_next, rooted_next}
-use Rattle.granit_agreement.proofs.Views.{after_nothing}
-
-abbrev X : Bool → lexemes.LexemeKind → Option KeyStart → Scope → lexemes.Lexeme → Terminal
-X b k key s l = terminal_of b s (at_kind l k key)
+use Rattle.granit_agreement.proofs.Views.{after_nothing, met_as}
 
 -- ---- what closing leaves
 
@@ -66,14 +62,14 @@ kept_closed n IsEnded gs b e = cc (b)
 inner_next :
     (b : Bool) (k : lexemes.LexemeKind) (key : Option KeyStart) (s : Scope) (l : lexemes.Lexeme) (o : OptionsData)
     (st cs : EventState) (d : Beside) → Below st cs → nat_le (state_count st) o.block_nesting_limit ≡ true →
-    Good cs → FairAt (X b k key s l) cs → frame_ends_at (X b k key s l) cs ≡ false → Knows o cs s d →
-    NextView o (X b k key s l) s d.given (take_token o (token_of b (at_kind l k key)) (state_of o cs d))
-    (taken (ended_by (X b k key s l) cs) (X b k key s l))
+    Good cs → FairAt (met_as b k key s l) cs → frame_ends_at (met_as b k key s l) cs ≡ false → Knows o cs s d →
+    NextView o (met_as b k key s l) s d.given (take_token o (token_of b (at_kind l k key)) (state_of o cs d))
+    (taken (ended_by (met_as b k key s l) cs) (met_as b k key s l))
 inner_next b k key s l o st (InFrames gs) d w e g f n q =
     subst
     (λ c.
-    NextView o (X b k key s l) s d.given (take_token o (token_of b (at_kind l k key)) (state_of o (InFrames gs) c))
-    (taken (ended_by (X b k key s l) (InFrames gs)) (X b k key s l)))
+    NextView o (met_as b k key s l) s d.given (take_token o (token_of b (at_kind l k key)) (state_of o (InFrames gs) c))
+    (taken (ended_by (met_as b k key s l) (InFrames gs)) (met_as b k key s l)))
     (sym q.0)
     (frame_next b k key (record { scope = s; lexeme = l; options = o; last = d.last; given = d.given }) gs g f n
     (kept_closed o.block_nesting_limit st gs w e) q.1 q.2)
@@ -117,30 +113,30 @@ taken_all x (e ∷ es) y =
 -- a lexeme ends what it ends, and is taken
 pub step_next :
     (b : Bool) (k : lexemes.LexemeKind) (key : Option KeyStart) (s : Scope) (l : lexemes.Lexeme) (o : OptionsData)
-    (st : EventState) (d : Beside) → Good st → Fair (X b k key s l) st → Knows o st s d →
+    (st : EventState) (d : Beside) → Good st → Fair (met_as b k key s l) st → Knows o st s d →
     nat_le (state_count st) o.block_nesting_limit ≡ true →
-    NextView o (X b k key s l) s d.given
+    NextView o (met_as b k key s l) s d.given
     (close o (token_of b (at_kind l k key)) (state_of o st d) >>= take_token o (token_of b (at_kind l k key)))
-    (taken (ended_by (X b k key s l) st) (X b k key s l))
+    (taken (ended_by (met_as b k key s l) st) (met_as b k key s l))
 step_next b k key s l o st d g f q e =
     let c = close_agrees b s (at_kind l k key) o st d g f in
     let v = c.viewed in
     subst
     (λ r.
-    NextView o (X b k key s l) s d.given (r >>= take_token o (token_of b (at_kind l k key)))
-    (taken (ended_by (X b k key s l) st) (X b k key s l)))
+    NextView o (met_as b k key s l) s d.given (r >>= take_token o (token_of b (at_kind l k key)))
+    (taken (ended_by (met_as b k key s l) st) (met_as b k key s l)))
     (sym (c.closes_to ∙ ap (λ p. Ok p) v.view))
     (subst
-    (NextView o (X b k key s l) s d.given
+    (NextView o (met_as b k key s l) s d.given
     (take_token o (token_of b (at_kind l k key))
     (state_of o v.closed_state (with_given v.last (give_all o v.gives d.given) d))))
     (sym
-    (ap (λ y. taken y (X b k key s l)) v.closes_is
-    ∙ taken_all (X b k key s l) v.gives (ended_by (X b k key s l) v.closed_state)))
-    (next_before o (X b k key s l) s d.given v.gives
+    (ap (λ y. taken y (met_as b k key s l)) v.closes_is
+    ∙ taken_all (met_as b k key s l) v.gives (ended_by (met_as b k key s l) v.closed_state)))
+    (next_before o (met_as b k key s l) s d.given v.gives
     (take_token o (token_of b (at_kind l k key))
     (state_of o v.closed_state (with_given v.last (give_all o v.gives d.given) d)))
-    (taken (ended_by (X b k key s l) v.closed_state) (X b k key s l))
+    (taken (ended_by (met_as b k key s l) v.closed_state) (met_as b k key s l))
     (inner_next b k key s l o st v.closed_state (with_given v.last (give_all o v.gives d.given) d) v.below e v.is_good
     v.is_fair v.stays
     (knows_closed o st v.closed_state s d v.last (give_all o v.gives d.given) v.below q))))

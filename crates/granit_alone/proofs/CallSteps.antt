@@ -1,19 +1,17 @@
 -- Calls that give events are steps of the machine, in order.
-use Rattle.std.proofs.Common.{◌≡◌, ◌||◌, Bool, true, false, List, [], ◌∷◌, ◌++◌, Option, Some, None, Result, Ok, Err}
+use Rattle.std.proofs.Common.{◌≡◌, ◌||◌, Bool, true, false, List, [], ◌∷◌, ◌++◌, Option, Some, None, Ok, Err}
 use Rattle.std.proofs.Common.{refl, sym, ap, ap₂, ◌∙◌, subst}
 use Rattle.std.specs.Prelude.{if◌then◌else◌, is_some}
 use Rattle.granit_alone.specs.Behind.{IsOpen, TellsRest}
 use Rattle.granit_error.specs.OptionsData.{OptionsData}
 use Rattle.granit_lexemes.specs.Outcome.{Fault}
 use Rattle.granit_lexemes.specs.PlainEvent.{PlainEvent, EventKind, StreamEnd, DocumentStart, DocumentEnd}
-use Rattle.granit_recovery.proofs.RecoveryLaws.{first_same, noted_steps, second_same}
+use Rattle.granit_recovery.proofs.RecoveryLaws.{first_same, noted_steps, second_same, noted_fault}
+use Rattle.granit_recovery.proofs.SkipLaws.{NextAnswer, event_in, state_or}
 use Rattle.granit_recovery.specs.Streams.{CallsGive, gives_next, gives_none}
 use Rattle.granit_restart.specs.Calls.{Calls, GivenByCall, given_by, next_call, noted}
 use Rattle.granit_steps.specs.Steps.{StepState, next_event}
 use Rattle.granit_steps.specs.Told.{GivesEvents, gives_end, gives_event, gives_fault}
-
-abbrev Stepped : Type 0
-Stepped = Result (Option PlainEvent × StepState) Fault
 
 -- ---- one call
 
@@ -48,7 +46,7 @@ pub record Step (o : OptionsData) (c : Calls) (e : PlainEvent) (after : Calls) :
   pub are : after ≡ noted e.kind (record c { steps = steps })
   pub goes : IsOpen c
 
-step_of : (o : OptionsData) (c after : Calls) (e : PlainEvent) (r : Stepped) → next_event o c.steps ≡ r → IsOpen c
+step_of : (o : OptionsData) (c after : Calls) (e : PlainEvent) (r : NextAnswer) → next_event o c.steps ≡ r → IsOpen c
     → given_by o c r ≡ (Some (Ok e), after) → Step o c e after
 step_of o c after e (Ok (Some x, t)) is goes g =
     let same : x ≡ e = let f = first_same _ _ g in cc in
@@ -72,22 +70,15 @@ pub step : (o : OptionsData) (c after : Calls) (e : PlainEvent) → next_call o 
 unfolding next_call
 step o c after e g = step_by ((c.over || is_some c.fault) || is_some c.refusal) o c after e refl g
 
--- what is noted
-abbrev is_last : EventKind → Bool
-is_last StreamEnd = true
-is_last kind = false
-
-noted_fault : (kind : EventKind) (c : Calls) → (noted kind c).fault ≡ c.fault
-noted_fault (DocumentStart explicit version) c = refl
-noted_fault DocumentEnd c = refl
-noted_fault StreamEnd c = refl
-noted_fault kind c = refl
-
-noted_refusal : (kind : EventKind) (c : Calls) → (noted kind c).refusal ≡ c.refusal
+pub noted_refusal : (kind : EventKind) (c : Calls) → (noted kind c).refusal ≡ c.refusal
 noted_refusal (DocumentStart explicit version) c = refl
 noted_refusal DocumentEnd c = refl
 noted_refusal StreamEnd c = refl
 noted_refusal kind c = refl
+
+abbrev is_last : EventKind → Bool
+is_last StreamEnd = true
+is_last kind = false
 
 noted_over : (kind : EventKind) (c : Calls) → c.over ≡ false → (noted kind c).over ≡ is_last kind
 noted_over (DocumentStart explicit version) c e = e
@@ -146,26 +137,18 @@ behind o c d es g (gives_next {after = after} {e = e} {es = rest} is more) =
 
 -- ---- what is told there
 
-abbrev event_of : Stepped → Option PlainEvent
-event_of (Ok x) = x.0
-event_of (Err f) = None
-
-abbrev state_of : StepState → Stepped → StepState
-state_of s (Ok x) = x.1
-state_of s (Err f) = s
-
 front_by : (o : OptionsData) (c d after : Calls) (e : PlainEvent) (es all : List PlainEvent) (f : Option Fault)
     → Step o c e after
     → ((all : List PlainEvent) → GivesEvents o after.steps all f → TellsRest o all es f d.steps)
     → GivesEvents o c.steps all f → TellsRest o all (e ∷ es) f d.steps
 front_by o c d after e es all f s more (gives_end is) =
-    absurd (let x : None ≡ Some e = ap event_of (sym is ∙ s.event) in cc)
+    absurd (let x : None ≡ Some e = ap event_in (sym is ∙ s.event) in cc)
 front_by o c d after e es all f s more (gives_fault is) =
-    absurd (let x : None ≡ Some e = ap event_of (sym is ∙ s.event) in cc)
+    absurd (let x : None ≡ Some e = ap event_in (sym is ∙ s.event) in cc)
 front_by o c d after e es all f s more (gives_event {after = t} {e = x} {es = xs} is rest) =
-    let some : Some x ≡ Some e = ap event_of (sym is ∙ s.event) in
+    let some : Some x ≡ Some e = ap event_in (sym is ∙ s.event) in
     let event : x ≡ e = cc in
-    let state : t ≡ after.steps = ap (state_of t) (sym is ∙ s.event)
+    let state : t ≡ after.steps = ap (state_or t) (sym is ∙ s.event)
     ∙ sym (ap (λ (d : Calls). d.steps) s.are ∙ noted_steps e.kind (record c { steps = s.steps })) in
     let p = more xs (subst (λ (s : StepState). GivesEvents o s xs f) state rest) in
     record {
@@ -182,7 +165,7 @@ front o c d es all f (gives_next {after = after} {e = e} {es = rest} is more) g 
 
 -- ---- where the next call gives no event
 
-none_by : (o : OptionsData) (c : Calls) (r : Stepped) → (given_by o c r).0 ≡ None
+none_by : (o : OptionsData) (c : Calls) (r : NextAnswer) → (given_by o c r).0 ≡ None
     → (t : StepState) × (r ≡ Ok (None, t))
 none_by o c (Ok (Some e, t)) is = absurd (cc)
 none_by o c (Ok (None, t)) is = (t, refl)
@@ -193,7 +176,7 @@ pub none_comes : (o : OptionsData) (c : Calls) → IsOpen c → (next_call o c).
 none_comes o c g is =
     none_by o c (next_event o c.steps) (ap (λ (x : GivenByCall × Calls). x.0) (sym (goes_by o c g)) ∙ is)
 
-fault_of : (o : OptionsData) (c after : Calls) (f : Fault) (r : Stepped) → given_by o c r ≡ (Some (Err f), after)
+fault_of : (o : OptionsData) (c after : Calls) (f : Fault) (r : NextAnswer) → given_by o c r ≡ (Some (Err f), after)
     → r ≡ Err f
 fault_of o c after f (Ok (Some e, t)) g = absurd (let x = first_same _ _ g in cc)
 fault_of o c after f (Ok (None, t)) g = absurd (let x = first_same _ _ g in cc)
@@ -218,7 +201,7 @@ pub told_none : (o : OptionsData) (s t : StepState) (more : List PlainEvent) (f 
 told_none o s t more f is (gives_end e) = (refl, refl)
 told_none o s t more f is (gives_fault e) = absurd (let x = sym is ∙ e in cc)
 told_none o s t more f is (gives_event {e = x} e rest) =
-    absurd (let y : None ≡ Some x = ap event_of (sym is ∙ e) in cc)
+    absurd (let y : None ≡ Some x = ap event_in (sym is ∙ e) in cc)
 
 pub told_fault : (o : OptionsData) (s : StepState) (g : Fault) (more : List PlainEvent) (f : Option Fault)
     → next_event o s ≡ Err g → GivesEvents o s more f → (more ≡ []) × (f ≡ Some g)

@@ -1,8 +1,10 @@
 -- A `...` that was read and not used is the last item that was, and reading stands at the end of its line.
 use Rattle.std.proofs.Common.{◌≡◌, ℕ, ◌||◌, ◌&&◌, ◌==◌, not, Bool, true, false, List, [], ◌∷◌, ◌++◌, length, Option}
-use Rattle.std.proofs.Common.{Some, None, Ok, refl, sym, ap, subst, ◌∙◌, drop, arith}
+use Rattle.std.proofs.Common.{Some, None, Ok, refl, sym, ap, subst, ◌∙◌, drop}
+use Rattle.std.proofs.Math.Bool.{and-false}
+use Rattle.std.proofs.Math.Nat.{le_refl}
+use Rattle.std.proofs.lemmas.Bool.{or_from, le-ltb}
 use Rattle.std.specs.Prelude.{if◌then◌else◌, nat_lt}
-use Rattle.std.proofs.lemmas.Bool.Decides.{nat_tests}
 use Rattle.granit_base.specs.Classes.{is_blank, is_break}
 use Rattle.granit_base.specs.Place.{ends_line, first}
 use Rattle.granit_before.proofs.OneLine.{tail_line}
@@ -11,6 +13,7 @@ use Rattle.granit_language.specs.Before.{freshened, in_front}
 use Rattle.granit_language.specs.Begins.{Begins, dots}
 use Rattle.granit_language.specs.Reached.{BeginsAt, ends_column_by, of_comment, of_lexeme, Reads}
 use Rattle.granit_language.specs.Standing.{Given, GivenOne}
+use Rattle.granit_lexemes.proofs.CharTests.{blank_apart_from_break}
 use Rattle.granit_lexemes.proofs.HereLemmas.{no_line_end, not_empty, step_text}
 use Rattle.granit_lexemes.specs.Comment.{CommentRead}
 use Rattle.granit_lexemes.specs.Gap.{Each}
@@ -42,6 +45,7 @@ use Rattle.granit_shifted.proofs.FoundLaws.{led_holds}
 use Rattle.granit_shifted.proofs.FoundMarks.{cursor_waiting}
 use Rattle.granit_shifted.proofs.MarkWaits as waiting
 use Rattle.granit_shifted.proofs.MarkWaits.{any_of, none_in, none_waits, one_in, OneIn, WaitsLast}
+use Rattle.granit_shifted.proofs.StartsRead.{or_false}
 use Rattle.granit_shifted.specs.Led.{Led, led_anew, led_keeping, led_on, led_start, led_with}
 use Rattle.granit_steps.specs.Steps.{is_open_comment, step_turn, StepState, Turn}
 
@@ -59,14 +63,6 @@ abbrev pub EndsIn : Here → List Item → Type 0
 EndsIn after is = OneIn is_end EndRead after is
 
 -- ---- what stands behind it on its line
-
-and_false : (b : Bool) → (b && false) ≡ false
-and_false true = refl
-and_false false = refl
-
-or_falses : (a b : Bool) → a ≡ false → b ≡ false → (a || b) ≡ false
-or_falses true b e f = e
-or_falses false b e f = f
 
 if_false : (b : Bool) (g h : Here) → b ≡ false → (if b then g else h) ≡ h
 if_false true g h e = absurd (cc)
@@ -86,19 +82,15 @@ unfolding begins_behind
 stays_begun h c cs e line quiet =
     step_begins h c cs e
     ∙ ap (λ (t : List ℕ). ends_line t || (is_quiet (first t) && h.begins_line)) e
-    ∙ or_falses (ends_line (c ∷ cs)) (is_quiet c && h.begins_line) (no_line_end c cs line) quiet
-
-blank_inside : (c : ℕ) → is_blank c ≡ true → is_break c ≡ false
-unfolding is_blank is_break
-blank_inside c e = grind (arith, nat_tests)
+    ∙ or_from (ends_line (c ∷ cs)) (is_quiet c && h.begins_line) (no_line_end c cs line) quiet
 
 over_begun : (cs more : List ℕ) (h : Here) → h.unread.text ≡ cs ++ more → Each is_blank cs → h.begins_line ≡ false
     → (over cs h).begins_line ≡ false
 over_begun [] more h e each begun = begun
 over_begun (c ∷ cs) more h e each begun =
     over_begun cs more (step h) (step_text h ∙ ap (drop 1) e) each.1
-    (stays_begun h c (cs ++ more) e (blank_inside c each.0)
-    (ap (λ b. is_quiet c && b) begun ∙ and_false (is_quiet c)))
+    (stays_begun h c (cs ++ more) e (blank_apart_from_break c each.0)
+    (ap (λ b. is_quiet c && b) begun ∙ and-false (is_quiet c)))
 
 tail_right : {end after : Here} {held : Option CommentRead} → LexemeTail end held after → end.begins_line ≡ false
     → is_open_comment held ≡ false
@@ -130,10 +122,6 @@ end_at o ends h l (OfLexeme x ∷ []) after in_flow adjacent (dots stands) p =
 end_at o ends h l [] after in_flow adjacent b p = absurd p
 end_at o ends h l (OfComment c ∷ is) after in_flow adjacent b p = absurd p
 end_at o ends h l (OfLexeme x ∷ i ∷ is) after in_flow adjacent b p = absurd p
-
-or_false : (b : Bool) → b ≡ false → (b || false) ≡ false
-or_false true e = e
-or_false false e = refl
 
 abbrev has_end : List Item → Bool
 has_end is = any_of is_end EndRead is
@@ -245,14 +233,11 @@ end_of_line : (text : List ℕ) → (length text == 0 || is_break (first text)) 
 end_of_line [] e = tt
 end_of_line (c ∷ cs) e = ap (λ b. b || is_break c) (sym (not_empty c cs)) ∙ e
 
-not_less : (n : ℕ) → nat_lt n n ≡ false
-not_less n = grind (arith, nat_tests)
-
 line_ends : (h : Here) (l : Lexeme) → EndRead h l → is_boundary h l.kind l ≡ true → IsLineEnd h.unread.text
 line_ends h l r is =
     end_of_line h.unread.text
     (ap (λ b. b || (text_len h == 0 || is_break (next_char h)))
-    (sym (ap (λ n. nat_lt n h.place.line) r.line ∙ not_less h.place.line))
+    (sym (ap (λ n. nat_lt n h.place.line) r.line ∙ (le-ltb h.place.line h.place.line (le_refl h.place.line))))
     ∙ ap (λ (k : LexemeKind). is_boundary h k l) (sym r.kind) ∙ is)
 
 end_kind : (k : LexemeKind) → k ≡ lexemes.DocumentEnd → is_end k ≡ true

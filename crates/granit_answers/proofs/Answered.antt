@@ -15,16 +15,17 @@ use Rattle.granit_language.specs.Terminal.{At, TerminalKind, TheEnd, Terminal, t
 use Rattle.granit_language.specs.TreeEvents.{TreeEvent}
 use Rattle.granit_language.specs.Whole.{WholeReading}
 use Rattle.granit_lexemes.specs.Here.{start_of, mark_of}
-use Rattle.granit_lexemes.specs.Lexeme.{LexemeKind, StreamEnd, Lexeme, Item, OfLexeme, OfComment}
+use Rattle.granit_lexemes.specs.Lexeme.{StreamEnd, Lexeme, Item, OfLexeme, OfComment}
 use Rattle.granit_lexemes.specs.Outcome.{Fault, ◌>>=◌}
 use Rattle.granit_lexemes.specs.PlainEvent.{PlainEvent, StreamStart, event_on}
 use Rattle.granit_lexemes.specs.declared.layout.Bracket.{Bracket}
+use Rattle.granit_machine.proofs.SortLemmas.{end_kind_is}
 use Rattle.granit_machine.specs.Frames.{ParserState, parser_start}
 use Rattle.granit_machine.specs.Laid.{Laid}
 use Rattle.granit_machine.specs.Lexing.{FlaggedItem, Flagging, is_nearest, flag_lexeme, flag_item, flagging, flagged}
 use Rattle.granit_machine.specs.Lexing.{lex}
 use Rattle.granit_machine.specs.Machine.{asked_items, feed_all, is_settled, front_if, settled, run_answer, run}
-use Rattle.granit_machine.specs.Reader.{LexState, is_end_kind, is_end}
+use Rattle.granit_machine.specs.Reader.{LexState, is_end}
 use Rattle.granit_machine.specs.ReaderState.{reader_start}
 use Rattle.granit_reading.proofs.ReadingLaw.{lexed, lex_answers}
 use Rattle.granit_invariants.proofs.CommentLaws.{Lexed, answer_to}
@@ -55,10 +56,6 @@ record HasEnd (fs : List Flagged) : Type 0 where
   is : fs ≡ front ++ (end ∷ rest)
   ends : end.0.kind ≡ StreamEnd
 
-end_kind : (kind : LexemeKind) → is_end_kind kind ≡ true → kind ≡ StreamEnd
-end_kind StreamEnd e = refl
-end_kind kind e = absurd cc
-
 flagged_front : (x : Lexeme) (y : Flagging) → (flag : Bool)
     × (lexemes_flagged (flag_item (OfLexeme x) y).0 ≡ (x, flag) ∷ lexemes_flagged y.0)
 flagged_front x y = on (is_nearest x.number y.1)
@@ -72,7 +69,7 @@ has_end [] [] e = absurd cc
 has_end [] (OfComment c ∷ last) e = absurd cc
 has_end [] (OfLexeme x ∷ last) e =
     let p = flagged_front x (flagging last) in
-    record { front = []; end = (x, p.0); rest = read_lexemes last; is = p.1; ends = end_kind x.kind e }
+    record { front = []; end = (x, p.0); rest = read_lexemes last; is = p.1; ends = end_kind_is x.kind e }
 has_end (OfComment c ∷ front) last e =
     let h = has_end front last e in record { front = h.front; end = h.end; rest = h.rest; is = h.is; ends = h.ends }
 has_end (OfLexeme x ∷ front) last e =
@@ -294,3 +291,7 @@ settled_order l (f ∷ fs) s bs due may p =
       settled_order l fs (next_scope x.kind s) (open_behind x.kind bs)
           (due_behind bs x.kind x.at due) (may_follow x.kind) p.2,
     )
+
+pub one_answer : (r : Result (List PlainEvent) Fault) (es ds : List PlainEvent) → r ≡ Ok es → r ≡ Ok ds → es ≡ ds
+one_answer r es ds a b = cc
+

@@ -12,17 +12,14 @@ use Rattle.granit_lexemes.specs.Here.{start_of, mark_of}
 use Rattle.granit_lexemes.specs.Lexeme.{Item}
 use Rattle.granit_lexemes.specs.Outcome.{Fault, ◌>>=◌}
 use Rattle.granit_lexemes.specs.PlainEvent.{PlainEvent, StreamStart, event_on}
-use Rattle.granit_machine.specs.Frames.{ParserState}
+use Rattle.granit_machine.proofs.ClosingLemmas.{FeedGiven}
 use Rattle.granit_machine.specs.Lexing.{FlaggedItem, flagged, lex}
 use Rattle.granit_machine.specs.Machine.{asked_items, feed_all, settled, run_answer, run}
 use Rattle.granit_machine.specs.Reader.{LexState}
 use Rattle.granit_answers.proofs.Answered.{Bare, bare_run, Shown}
 use Rattle.granit_answers.proofs.RowsTold.{Start, told_of, told_none}
 
-abbrev pub Fed : Type 0
-Fed = Result (List PlainEvent × ParserState) Fault
-
-abbrev pub failed : Fault → Fed → Result (List PlainEvent) Fault
+abbrev pub failed : Fault → FeedGiven → Result (List PlainEvent) Fault
 failed g r = r >>= λ y. Err g
 
 module _ (o : OptionsData) (x : List ℕ) where
@@ -40,15 +37,15 @@ module _ (o : OptionsData) (x : List ℕ) where
   pub bare_silent : (es : List PlainEvent) → Bare o x ≡ Ok es → but_comments es ≡ es
   bare_silent es r = none_told o (start_of x) es (run_same false o (start_of x) ∙ r)
 
-  shown_alike : (r s : Fed) (f : Fault) → Alike r s → Shown o x r ≡ Err f → Shown o x s ≡ Err f
+  shown_alike : (r s : FeedGiven) (f : Fault) → Alike r s → Shown o x r ≡ Err f → Shown o x s ≡ Err f
   shown_alike (Ok y) s f a e = absurd cc
   shown_alike (Err g) s f a e = ap (Shown o x) a ∙ e
 
-  failed_alike : (g : Fault) (r s : Fed) (f : Fault) → Alike r s → failed g r ≡ Err f → failed g s ≡ Err f
+  failed_alike : (g : Fault) (r s : FeedGiven) (f : Fault) → Alike r s → failed g r ≡ Err f → failed g s ≡ Err f
   failed_alike g (Ok y) s f a e = ap (failed g) a.1 ∙ e
   failed_alike g (Err h) s f a e = ap (failed g) a ∙ e
 
-  given_alike : (r s : Fed) (es : List PlainEvent) → Alike r s → Shown o x r ≡ Ok es →
+  given_alike : (r s : FeedGiven) (es : List PlainEvent) → Alike r s → Shown o x r ≡ Ok es →
       (gs : List PlainEvent) × (Shown o x s ≡ Ok gs)
   given_alike (Ok y) s es a e = (event_on StreamStart (mark_of (start_of x)) ∷ a.0.0, ap (Shown o x) a.1)
   given_alike (Err g) s es a e = absurd cc

@@ -4,7 +4,7 @@ use Rattle.std.proofs.Common.{◌∙◌, subst}
 use Rattle.granit_base.specs.Place.{Mark}
 use Rattle.granit_error.specs.OptionsData.{OptionsData}
 use Rattle.granit_agreement.specs.Fair.{is_key_part}
-use Rattle.granit_language.specs.Seen.{Flagged, terminal_kind, lexemes_flagged, read_lexemes}
+use Rattle.granit_language.specs.Seen.{Flagged, terminal_kind, lexemes_flagged, read_lexemes, key_number}
 use Rattle.granit_language.specs.Before.{freshened, closed_for}
 use Rattle.granit_language.specs.Fitting.{role_of}
 use Rattle.granit_language.specs.Reached.{ends_column_by, Reads, of_comment, of_lexeme, Reached, stops, goes_on}
@@ -18,7 +18,7 @@ use Rattle.granit_lexemes.specs.declared.layout.Bracket.{Bracket}
 use Rattle.granit_lexemes.specs.declared.layout.OpenBracket.{OpenBracket}
 use Rattle.granit_machine.specs.Laid.{Laid, is_opener, is_nonempty, is_in_flow}
 use Rattle.granit_machine.specs.LexemeSort.{LexemeSort, Placed, TextEnd, StartMark, EndMark, DirectiveSign, Unprintable}
-use Rattle.granit_machine.specs.Lexing.{Flagging, is_nearest, and_key, flag_lexeme, flag_item, flagging}
+use Rattle.granit_machine.specs.Lexing.{Flagging, is_nearest, flag_lexeme, flag_item, flagging}
 use Rattle.granit_machine.specs.NodeLexemes.{note_items}
 use Rattle.granit_machine.specs.PossibleKeys.{fresh_bracket, fresh}
 use Rattle.granit_machine.specs.Reader.{is_end_kind, is_end}
@@ -26,7 +26,8 @@ use Rattle.granit_machine.specs.ReaderState.{ReaderState, reader_start}
 use Rattle.granit_reading.proofs.Choosing.{Held, Within, within_self, Below, below_within, Chosen, nones, chosen_none}
 use Rattle.granit_reading.proofs.Choosing.{chosen_within, and_number, pending, stepped, below_moves, role_key}
 use Rattle.granit_reading.proofs.Holding.{held, full, fresh-within}
-use Rattle.granit_reading.proofs.Moving.{start_number, agrees_held, lexeme_moved, closed_held}
+use Rattle.granit_reading.proofs.KeysLaw.{named}
+use Rattle.granit_reading.proofs.Moving.{agrees_held, lexeme_moved, closed_held}
 use Rattle.granit_reading.proofs.Telling.{gap_agrees, telling}
 use Rattle.granit_answers.specs.Order.{open_behind, may_follow, closes_innermost, EndsThere, BracketsFrom}
 use Rattle.granit_answers.proofs.BracketsPassed.{kinds_in, kinds_flow, Passed, passed}
@@ -60,17 +61,13 @@ comment_fits l c y f = record { ks = f.ks; chosen = f.chosen; ordered = f.ordere
 
 -- ---- one lexeme
 
-pub named : (key : Option KeyStart) (ns : List ℕ) → and_key key ns ≡ and_number (start_number key) ns
-named None ns = refl
-named (Some k) ns = refl
-
 end_there : (kind : LexemeKind) (key : Option KeyStart) (fs : List Flagged) → (is_end_kind kind ≡ true → fs ≡ [])
     → EndsThere (terminal_kind kind key) fs
 end_there StreamEnd key fs p = p refl
 end_there kind key fs p = tt
 
 module _ (l after : Laid) (x : Lexeme) (flow : x.in_flow ≡ is_in_flow l) (number : x.number ≡ l.number)
-    (key : start_number x.key ≡ role_key (role_of x.kind x.key)) (p : Passed l x after) (y : Flagging)
+    (key : key_number x.key ≡ role_key (role_of x.kind x.key)) (p : Passed l x after) (y : Flagging)
     (last : is_end_kind x.kind ≡ true → lexemes_flagged y.0 ≡ []) (f : BracketFits after y) where
   ordered_as : (flag : Bool) → (flag ≡ true → p.new ≡ true) → (s : Scope) (may : Bool)
       → (is_nonempty (kinds_in l.brackets) ≡ true → may ≡ is_opener l.last)

@@ -32,7 +32,7 @@ use Rattle.granit_machine.specs.ReaderState.{behind_tail}
 use Rattle.granit_reading.proofs.Deciding.{asserts, bracket_decided}
 use Rattle.granit_reading.proofs.Choosing.{Held, Within, within_self, Moves}
 use Rattle.granit_reading.proofs.Holding.{held, Noted, node_noted}
-use Rattle.granit_reading.proofs.Moving.{Moved, agrees_held}
+use Rattle.granit_reading.proofs.Moving.{Moved, agrees_held, role_unkeyed}
 use Rattle.granit_reading.proofs.Telling.{Unkeyed, SaysOf, Agrees}
 use Rattle.granit_answers.specs.Order.{outer_brackets, open_behind, may_follow, is_innermost, closes_innermost}
 
@@ -78,9 +78,6 @@ pub record Passed (l : Laid) (x : Lexeme) (after : Laid) : Type 0 where
 pub term_of : {kind : LexemeKind} {x : Lexeme} → Unkeyed kind x → terminal_kind x.kind x.key ≡ terminal_kind kind None
 term_of u = ap₂ terminal_kind u.is u.key
 
-role_at : {kind : LexemeKind} {x : Lexeme} → Unkeyed kind x → role_of x.kind x.key ≡ role_of kind None
-role_at u = ap₂ role_of u.is u.key
-
 -- ---- lexemes of nodes
 
 node_moves : (v : Bool) (n : ℕ) (hs gs : Held) → Noted v n hs gs → Moves OfNode v n hs gs
@@ -117,7 +114,7 @@ module _ (h : Here) (l : Laid) (x : Lexeme) (after : Laid) (kind : LexemeKind) (
   node_passed t r e b q same quiet = record {
     new = is_allowed h.begins_line h.tab l;
     moves =
-        subst (λ r. Moves r (is_allowed h.begins_line h.tab l) l.number (held l) (held after)) (sym (role_at u
+        subst (λ r. Moves r (is_allowed h.begins_line h.tab l) l.number (held l) (held after)) (sym (role_unkeyed u
         ∙ r)) (subst (Moves OfNode (is_allowed h.begins_line h.tab l) l.number (held l)) (sym e)
         (node_moves (is_allowed h.begins_line h.tab l) l.number (held l) (held (noded property h l))
         (node_noted property h l)));
@@ -217,7 +214,7 @@ module _ (o : OptionsData) (h : Here) (l : Laid) (x : Lexeme) (cut : Option Mark
   passed (Placed (OpenSign bracket)) s a = record {
     new = is_allowed h.begins_line h.tab l;
     moves =
-        subst (λ r. Moves r (is_allowed h.begins_line h.tab l) l.number (held l) (held after)) (sym (role_at s))
+        subst (λ r. Moves r (is_allowed h.begins_line h.tab l) l.number (held l) (held after)) (sym (role_unkeyed s))
         (subst (Moves Opens (is_allowed h.begins_line h.tab l) l.number (held l)) (sym (agrees_held a))
         (opens_moves (is_allowed h.begins_line h.tab l) l.number (held l) (held (noded false h l))
         (node_noted false h l)));

@@ -15,6 +15,7 @@ use Rattle.granit_language.specs.Seen.{Flagged, terminal_seen, read_lexemes}
 use Rattle.granit_language.specs.TextFault.{AreSettled, FirstIsOpen, SettledFront, NoneTold, OfLexemes, to_end}
 use Rattle.granit_language.specs.TextFault.{before_stop, OfReading, WholeCause}
 use Rattle.granit_language.specs.Whole.{Viable}
+use Rattle.granit_lexemes.proofs.PieceLemmas.{same_error}
 use Rattle.granit_lexemes.specs.Here.{start_of, mark_of}
 use Rattle.granit_lexemes.specs.Lexeme.{Item}
 use Rattle.granit_lexemes.specs.Outcome.{Fault, fault_at, ◌>>=◌}
@@ -63,9 +64,6 @@ front_on l f fs front false e s = record {
 is_front : (l : Laid) (fs : List Flagged) → SettledFront l fs (settled_front l fs)
 is_front l [] = record { more = []; is = refl; settled = tt; waits = tt }
 is_front l (f ∷ fs) = front_on l f fs (settled_front l fs) (is_possible f.0.number l) refl (is_front l fs)
-
-same_refusal : {A : Type 0} (g f : Fault) → ◌≡◌ {A = Result A Fault} (Err g) (Err f) → g ≡ f
-same_refusal g f e = cc
 
 -- ---- what is answered where reading stops
 
@@ -217,7 +215,7 @@ module _ (o : OptionsData) (x : List ℕ) where
       subst (λ (s : ReaderState). read o s ≡ Err g.0) t.3
       ((lexed_whole o (start_of x) c.items t.0 t.1).refused g.0 g.1) in
       let same : g.0 ≡ fault_at f.kind f.mark =
-      same_refusal g.0 (fault_at f.kind f.mark) (sym there ∙ cause_refused o c.state c.refused) in
+      same_error g.0 (fault_at f.kind f.mark) (sym there ∙ cause_refused o c.state c.refused) in
       (refused_by f c).1
       ∙ ap (λ (f : Fault). Err f) (same ∙ ap (λ (sources : List _). record f { sources = sources }) (sym c.unnamed))
 

@@ -2,7 +2,7 @@
 use Rattle.std.proofs.Common.{◌≡◌, ℕ, ◌==◌, ◌&&◌, ◌||◌, Bool, true, false, List, [], ◌∷◌, Option, Some, None, refl, sym}
 use Rattle.std.proofs.Common.{ap, ◌∙◌, subst, arith}
 use Rattle.std.specs.Prelude.{not, nat_lt}
-use Rattle.std.proofs.lemmas.Bool.{and_parts}
+use Rattle.std.proofs.lemmas.Bool.{and_parts, or_parts, not-false}
 use Rattle.std.proofs.lemmas.Bool.Decides.{nat_tests}
 use Rattle.granit_base.specs.Place.{Mark}
 use Rattle.granit_agreement.specs.Running.{FairNext}
@@ -42,16 +42,13 @@ use Rattle.granit_answers.proofs.Enclosing.{suits_curly_key_done, suits_curly_as
 use Rattle.granit_answers.proofs.Enclosing.{suits_curly_done, suits_made_key_done, suits_made_done}
 use Rattle.granit_answers.proofs.Enclosing.{suits_square_ask_done, suits_square_done}
 use Rattle.granit_answers.proofs.OrderSteps.{after_next, if_next}
+use Rattle.granit_answers.specs.FrameColumns.{other_columns}
 
 -- ---- columns of frames
 
-abbrev pub own_column : Bool → ℕ → List ℕ → List ℕ
-own_column true c ns = ns
-own_column false c ns = c ∷ ns
-
 abbrev pub open_columns : List OpenFrame → List ℕ
 open_columns [] = []
-open_columns (SequenceFrame loose c w ∷ fs) = own_column loose c (open_columns fs)
+open_columns (SequenceFrame loose c w ∷ fs) = other_columns loose c (open_columns fs)
 open_columns (MappingFrame c at ∷ fs) = c ∷ open_columns fs
 open_columns (f ∷ fs) = open_columns fs
 
@@ -137,14 +134,6 @@ either_holds : (cs : List ℕ) (b : Bool) (y z : Ending) → (b ≡ true → End
 either_holds cs true y z p q = p refl
 either_holds cs false y z p q = q refl
 
-first_false : (a b : Bool) → (a || b) ≡ false → a ≡ false
-first_false true b e = e
-first_false false b e = refl
-
-not_false : (a : Bool) → not a ≡ false → a ≡ true
-not_false true e = refl
-not_false false e = absurd cc
-
 abbrev pub closed_columns : List Bracket → ℕ → List ℕ → List ℕ
 closed_columns [] k cs = pop k cs
 closed_columns (b ∷ bs) k cs = cs
@@ -166,7 +155,7 @@ module _ (x : Terminal) where
   kept_top c ns e = sym (ap (λ v. chosen v (Left ns) (c ∷ ns)) e)
 
   sequence_holds : (loose : Bool) (c : ℕ) (fs : List OpenFrame) (on : Ending) → Sits (SequenceFrame loose c None ∷ fs)
-      → EndHolds (Left (open_columns fs)) on → EndHolds (Left (own_column loose c (open_columns fs)))
+      → EndHolds (Left (open_columns fs)) on → EndHolds (Left (other_columns loose c (open_columns fs)))
       (past_sequence x loose c fs on)
   sequence_holds true c fs on s p =
       either_holds (Left (open_columns fs)) (not (dash_in x c)) (with_event (pointed SequenceEnds x.at.start) on)
@@ -174,7 +163,7 @@ module _ (x : Terminal) where
       (λ e. event_holds (Left (open_columns fs)) (pointed SequenceEnds x.at.start) on p)
       (λ e. (
         none_popped reach (open_columns fs)
-            (stays_in c (open_columns fs) (and_parts _ _ (not_false (dash_in x c) e)).1 s.1),
+            (stays_in c (open_columns fs) (and_parts _ _ (not-false (dash_in x c) e)).1 s.1),
         s,
       ))
   sequence_holds false c fs on s p =
@@ -201,7 +190,7 @@ module _ (x : Terminal) where
       (ending (InFrames (MappingFrame c AskDone ∷ fs)) [])
       (λ e. event_holds (Left (c ∷ open_columns fs)) (null x.at.start None) (past_mapping x c fs on)
       (mapping_holds c fs on s p))
-      (λ e. (kept_top c (open_columns fs) (not_left c (and_parts _ _ (not_false (bare_in x c) e)).1), s))
+      (λ e. (kept_top c (open_columns fs) (not_left c (and_parts _ _ (not-false (bare_in x c) e)).1), s))
 
   blocks_hold : (e : Mark) (fs : List OpenFrame) → Blocks fs → Sits fs
       → EndHolds (Left (open_columns fs)) (finish_frames x e fs)
@@ -218,11 +207,11 @@ module _ (x : Terminal) where
       → open_columns fs ≡ Left (open_columns fs)
   kept_open fs block_root s e = refl
   kept_open fs (block_entry {loose = true} {c = c} {fs = gs} b) s e = none_popped reach (open_columns gs)
-      (at_most_behind reach c (open_columns gs) (first_false (stands_left x c) _ e) s.1 (sits_fall gs s.2)).1
+      (at_most_behind reach c (open_columns gs) (or_parts (stands_left x c) _ e).0 s.1 (sits_fall gs s.2)).1
   kept_open fs (block_entry {loose = false} {c = c} {fs = gs} b) s e = kept_top c (open_columns gs)
-      (first_false (stands_left x c) _ e)
-  kept_open fs (block_asked {c = c} {fs = gs} b) s e = kept_top c (open_columns gs) (first_false (stands_left x c) _ e)
-  kept_open fs (block_value {c = c} {fs = gs} b) s e = kept_top c (open_columns gs) (first_false (stands_left x c) _ e)
+      (or_parts (stands_left x c) _ e).0
+  kept_open fs (block_asked {c = c} {fs = gs} b) s e = kept_top c (open_columns gs) (or_parts (stands_left x c) _ e).0
+  kept_open fs (block_value {c = c} {fs = gs} b) s e = kept_top c (open_columns gs) (or_parts (stands_left x c) _ e).0
 
   hole_holds : (fs : List OpenFrame) → Blocks fs → Sits fs
       → EndHolds (Left (open_columns fs)) (choose (frames_empty fs x) (nothing_frames x fs) (ending (InFrames fs) []))

@@ -16,6 +16,7 @@ use Rattle.granit_lexemes.specs.declared.layout.OpenBracket.{OpenBracket}
 use Rattle.granit_machine.specs.Laid.{Laid, is_nonempty, is_in_flow}
 use Rattle.granit_reading.proofs.Choosing.{Held, top_of}
 use Rattle.granit_reading.proofs.ColumnsKept.{chosen, pop, push, Change, nothing, all_end, passes, own, keyed}
+use Rattle.granit_reading.proofs.ColumnsLaw.{shut_of}
 use Rattle.granit_answers.specs.Order.{open_behind, due_behind, KeepsKey, KeysFrom}
 use Rattle.granit_answers.proofs.BracketsPassed.{kinds_in}
 use Rattle.granit_answers.proofs.KeysMoved.{outer_in, due_by_key}
@@ -63,7 +64,7 @@ keys_from Q (f ∷ fs) s bs due cs p =
 abbrev pub edges : Laid → List ℕ
 edges l = map suc (columns_of l)
 
-pop_suc : (k : ℕ) (ns : List ℕ) → map suc (pop k ns) ≡ pop (suc k) (map suc ns)
+pub pop_suc : (k : ℕ) (ns : List ℕ) → map suc (pop k ns) ≡ pop (suc k) (map suc ns)
 pop_suc k [] = refl
 pop_suc k (n ∷ ns) = on (nat_lt k n) refl (pop_suc k ns)
   where
@@ -87,7 +88,7 @@ push_suc c (n ∷ ns) = on (n == c) refl
     on false e = let f : (suc n == suc c) ≡ false = grind (arith, nat_tests, e) in sym
         (ap (λ v. suc c ∷ chosen v (map suc ns) (suc n ∷ map suc ns)) f)
 
-pop_all : (ns : List ℕ) → [] ≡ pop 0 (map suc ns)
+pub pop_all : (ns : List ℕ) → [] ≡ pop 0 (map suc ns)
 pop_all [] = refl
 pop_all (n ∷ ns) = let f : nat_lt 0 (suc n) ≡ true = grind (arith, nat_tests) in pop_all ns
     ∙ sym (ap (λ v. chosen v (pop 0 (map suc ns)) (suc n ∷ map suc ns)) f)
@@ -153,10 +154,6 @@ module _ (i : At) (due : Option ℕ) (ns : List ℕ) where
 
 -- ---- a lexeme of the reader
 
-shut_here : (bs : List OpenBracket) → is_nonempty bs ≡ false → bs ≡ []
-shut_here [] e = refl
-shut_here (b ∷ bs) e = absurd cc
-
 top_number : (n : ℕ) (ks : Held) → role_fits (Rattle.granit_language.specs.Fitting.Keyed n) ks ≡ true
     → (m : ℕ) × (top_of ks ≡ Some m)
 top_number n [] e = absurd cc
@@ -170,7 +167,7 @@ module _ (l : Laid) (x : Lexeme) (after : Laid) (flow : x.in_flow ≡ is_in_flow
       (due_by_key (outer_in (kinds_in bs) before) l.key) (edges l)
 
   outside : x.in_flow ≡ false → Moved [] → Moved l.brackets
-  outside f p = subst Moved (sym (shut_here l.brackets (sym flow ∙ f))) p
+  outside f p = subst Moved (sym (shut_of l.brackets (sym flow ∙ f))) p
 
   within : (bs : List OpenBracket) → is_nonempty bs ≡ true → columns_of after ≡ columns_of l → Moved bs
   within [] e c = absurd cc

@@ -11,6 +11,7 @@ use Rattle.granit_lexemes.specs.Here.{start_of}
 use Rattle.granit_lexemes.specs.Lexeme.{Item}
 use Rattle.granit_lexemes.specs.Outcome.{Fault}
 use Rattle.granit_lexemes.specs.PlainEvent.{PlainEvent}
+use Rattle.granit_machine.proofs.ClosingLemmas.{FeedGiven}
 use Rattle.granit_machine.specs.Lexing.{FlaggedItem, flagged, lex}
 use Rattle.granit_machine.specs.Machine.{asked_items, feed_all, settled, run}
 use Rattle.granit_machine.specs.Reader.{LexState}
@@ -18,7 +19,7 @@ use Rattle.granit_machine.specs.ReaderState.{ReaderState}
 use Rattle.granit_reading.proofs.ReadingLaw.{lex_answers}
 use Rattle.granit_reading.proofs.WholeLaw.{all_read_whole}
 use Rattle.granit_answers.proofs.Answered.{Bare, bare_run, Shown, shown_fault}
-use Rattle.granit_answers.proofs.Asked.{Fed, failed, Asked, asked_run, asked_to_end, asked_stopped, bare_to_end}
+use Rattle.granit_answers.proofs.Asked.{failed, Asked, asked_run, asked_to_end, asked_stopped, bare_to_end}
 use Rattle.granit_answers.proofs.Asked.{bare_failed}
 use Rattle.granit_answers.proofs.RowsTold.{Start, told_of, told_is, told_before, many_of, first_of, none_in_front}
 use Rattle.granit_answers.proofs.RowsTold.{none_told, unasked_none}
@@ -30,8 +31,8 @@ module _ (o : OptionsData) (x : List ℕ) where
   err_same : (f g : Fault) → ◌≡◌ {A = Result (List PlainEvent) Fault} (Err f) (Err g) → f ≡ g
   err_same f g e = cc (e)
 
-  err_as : (f g : Fault) → f ≡ g → ◌≡◌ {A = Fed} (Err f) (Err g)
-  err_as f g e = ap (λ (f : Fault). let r : Fed = Err f in r) e
+  err_as : (f g : Fault) → f ≡ g → ◌≡◌ {A = FeedGiven} (Err f) (Err g)
+  err_as f g e = ap (λ (f : Fault). let r : FeedGiven = Err f in r) e
 
   module _ (items : List Item) (t : LexState) (e : lex o (start_of x) ≡ Ok (items, t))
       (asked : o.emit_comments ≡ true) where
@@ -76,7 +77,7 @@ module _ (o : OptionsData) (x : List ℕ) where
     stopped_by f g n (inl r) = inr (inr (of_row (Some g) f n r))
     stopped_by f g n (inr r) = without (Some g) f n r.0 (bare_failed o x items t e g n ∙ ap (failed g) r.1)
 
-    stop_by : (f g : Fault) → t.fault ≡ Some g → (r : Fed) →
+    stop_by : (f g : Fault) → t.fault ≡ Some g → (r : FeedGiven) →
         feed_all o (settled t.reader.laid (flagged items)) (Start o x) ≡ r →
         ◌≡◌ {A = Result (List PlainEvent) Fault} (failed g r) (Err f) → WholeCause o x f
     stop_by f g n (Ok y) h r =

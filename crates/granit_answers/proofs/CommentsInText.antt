@@ -22,6 +22,7 @@ use Rattle.granit_lexemes.specs.Lexeme as lexemes
 use Rattle.granit_lexemes.specs.Lexeme.{Lexeme, Item, OfLexeme, OfComment}
 use Rattle.granit_lexemes.specs.Outcome.{Fault}
 use Rattle.granit_lexemes.specs.PlainEvent.{PlainEvent, StreamStart, event_on}
+use Rattle.granit_machine.proofs.ClosingLemmas.{FeedGiven}
 use Rattle.granit_machine.specs.Frames.{ParserState}
 use Rattle.granit_machine.specs.Lexing.{FlaggedItem, flagged, lex}
 use Rattle.granit_machine.specs.Machine.{feed_all, settled, run}
@@ -30,7 +31,7 @@ use Rattle.granit_machine.specs.Reader.{LexState}
 use Rattle.granit_answers.specs.CommentStands as text
 use Rattle.granit_answers.specs.CommentStands.{InFrontOf, CommentStands}
 use Rattle.granit_answers.proofs.Answered.{asked_are, Shown}
-use Rattle.granit_answers.proofs.Asked.{Fed, failed, Asked, asked_run, asked_to_end, asked_stopped}
+use Rattle.granit_answers.proofs.Asked.{failed, Asked, asked_run, asked_to_end, asked_stopped}
 use Rattle.granit_answers.proofs.Caused.{read_whole}
 use Rattle.granit_answers.proofs.RowsTold.{Start, prefix_fair}
 
@@ -81,12 +82,12 @@ module _ (o : OptionsData) (x : List ℕ) where
       are : es ≡ Begin ∷ events
       none_waits : state.waiting ≡ None
 
-    shown_by : (es : List PlainEvent) (r : Fed) → Shown o x r ≡ Ok es →
+    shown_by : (es : List PlainEvent) (r : FeedGiven) → Shown o x r ≡ Ok es →
         (gs : List PlainEvent) × (q : ParserState) × (r ≡ Ok (gs, q)) × (es ≡ Begin ∷ gs)
     shown_by es (Ok (gs, q)) h = let same : Begin ∷ gs ≡ es = cc in (gs, q, refl, sym same)
     shown_by es (Err f) h = absurd cc
 
-    never_ok : (r : Fed) (f : Fault) (es : List PlainEvent) → failed f r ≡ Ok es → ⊥
+    never_ok : (r : FeedGiven) (f : Fault) (es : List PlainEvent) → failed f r ≡ Ok es → ⊥
     never_ok (Ok y) f es h = cc
     never_ok (Err g) f es h = cc
 

@@ -1,36 +1,33 @@
 -- Where indentation is strict, what stands in flow stands right of each open column.
-use Rattle.std.proofs.Common.{◌≡◌, ℕ, ◌≤◌, ◌<◌, Bool, true, false, arith, List, [], ◌∷◌, ◌++◌, map, Option, Some, None}
+use Rattle.std.proofs.Common.{◌≡◌, ℕ, ◌≤◌, ◌<◌, Bool, true, false, arith, List, [], ◌∷◌, ◌++◌, Option, Some, None}
 use Rattle.std.proofs.Common.{inl, inr, refl, sym, ap, ◌∙◌, subst}
+use Rattle.std.proofs.lemmas.Bool.{both_ways}
 use Rattle.std.specs.Prelude.{if◌then◌else◌, nat_lt}
 use Rattle.std.proofs.lemmas.Bool.Decides.{nat_tests}
 use Rattle.granit_base.specs.Place.{Mark}
 use Rattle.granit_error.specs.OptionsData.{OptionsData}
-use Rattle.granit_language.specs.Before.{freshened, closed_for, with_run, in_front}
+use Rattle.granit_language.specs.Before.{freshened, with_run, in_front}
 use Rattle.granit_language.specs.OpenColumns.{latest, Has, AtMost, Falls, columns_of, is_outer_kind}
 use Rattle.granit_language.specs.Reached.{StandsInside, ends_column_by, Reads, of_comment, of_lexeme, Reached, stops}
 use Rattle.granit_language.specs.Reached.{goes_on}
 use Rattle.granit_lexemes.specs.Comment.{CommentRead}
 use Rattle.granit_lexemes.specs.Here.{Here, mark_of}
 use Rattle.granit_lexemes.specs.Lexeme.{LexemeKind, Lexeme, Item, OfLexeme, OfComment}
-use Rattle.granit_lexemes.specs.declared.layout.OpenBracket.{OpenBracket}
 use Rattle.granit_lexemes.specs.declared.layout.OpenColumn.{OpenColumn}
 use Rattle.granit_machine.specs.Columns.{up_to_column, closed_at}
-use Rattle.granit_machine.specs.Laid.{Laid, is_nonempty, is_in_flow}
+use Rattle.granit_machine.specs.Laid.{Laid, is_in_flow}
 use Rattle.granit_machine.specs.LexemeSort.{PlacedSort, OpenSign, AliasSign, AnchorSign, TagSign, BlockSign, QuoteSign}
 use Rattle.granit_machine.specs.LexemeSort.{PlainSign, LexemeSort, TextEnd, StartMark, EndMark, DirectiveSign}
 use Rattle.granit_machine.specs.LexemeSort.{Unprintable, Placed}
 use Rattle.granit_machine.specs.NodeLexemes.{note_items}
 use Rattle.granit_machine.specs.ReaderState.{ReaderState, reader_start}
 use Rattle.granit_reading.proofs.ColumnsKept.{OpenSays}
+use Rattle.granit_reading.proofs.ColumnsLaw.{front_flow, some_of, cols}
 use Rattle.granit_reading.proofs.ColumnsWhole.{agrees_said, fresh_said, reads_said}
 use Rattle.granit_reading.proofs.Telling.{SaysOf, gap_agrees, telling}
 use Rattle.granit_answers.specs.FlowLimit.{StandsRight, AllStandRight}
-use Rattle.granit_answers.proofs.BracketsKept.{run_flow}
 
 -- ---- columns
-
-abbrev columns_in : List OpenColumn → List ℕ
-columns_in cs = map (λ (x : OpenColumn). x.column) cs
 
 run_columns : (sort : PlacedSort) (h : Here) (l : Laid) → columns_of (with_run sort h l) ≡ columns_of l
 run_columns (OpenSign bracket) h l = refl
@@ -47,18 +44,7 @@ kept : (sort : PlacedSort) (h : Here) (l : Laid) → is_in_flow l ≡ true →
     columns_of (in_front (Placed sort) h l) ≡ columns_of l
 kept sort h l e =
     run_columns sort h (closed_at h.place.column l)
-    ∙ ap (λ v. columns_in (if v then l.columns else up_to_column h.place.column l.columns)) e
-
-closed_flow : (sort : LexemeSort) (h : Here) (l : Laid) → is_in_flow (closed_for sort h l) ≡ is_in_flow l
-closed_flow TextEnd h l = refl
-closed_flow Unprintable h l = refl
-closed_flow StartMark h l = refl
-closed_flow EndMark h l = refl
-closed_flow DirectiveSign h l = refl
-closed_flow (Placed sort) h l = refl
-
-front_flow : (sort : LexemeSort) (h : Here) (l : Laid) → is_in_flow (in_front sort h l) ≡ is_in_flow l
-front_flow sort h l = run_flow sort h (closed_for sort h l) ∙ closed_flow sort h l
+    ∙ ap (λ v. cols (if v then l.columns else up_to_column h.place.column l.columns)) e
 
 not_left : (n column : ℕ) → (column ≤ n → ⊥) → n < column
 not_left n column p = by (nat_lt n column) refl
@@ -77,26 +63,19 @@ at_most (m ∷ ns) n c a (inr h) = at_most ns n c a.1 h
 
 -- right of the innermost column it stands right of each
 right_of : (cs : List OpenColumn) (column c : ℕ) →
-    ((b : OpenColumn) (bs : List OpenColumn) → cs ≡ b ∷ bs → column ≤ b.column → ⊥) → Falls (columns_in cs) →
-    Has c (columns_in cs) → c < column
+    ((b : OpenColumn) (bs : List OpenColumn) → cs ≡ b ∷ bs → column ≤ b.column → ⊥) → Falls (cols cs) →
+    Has c (cols cs) → c < column
 right_of [] column c p f h = absurd h
 right_of (b ∷ bs) column c p f (inl e) = subst (λ c. c < column) e (not_left b.column column (p b bs refl))
 right_of (b ∷ bs) column c p f (inr h) =
-    not_more b.column column c (at_most (columns_in bs) b.column c f.0 h) (not_left b.column column (p b bs refl))
+    not_more b.column column c (at_most (cols bs) b.column c f.0 h) (not_left b.column column (p b bs refl))
 
 -- ---- one lexeme
-
-flow_of : (bs : List OpenBracket) → is_nonempty bs ≡ true → (b : OpenBracket) × (cs : List OpenBracket) × (bs ≡ b ∷ cs)
-flow_of [] e = absurd cc
-flow_of (b ∷ bs) e = (b, bs, refl)
-
-never_both : (v : Bool) → v ≡ true → v ≡ false → ⊥
-never_both v a b = absurd cc
 
 outer : (o : OptionsData) (ls : List Lexeme) (x : Lexeme) (kind : LexemeKind) → x.kind ≡ kind →
     is_outer_kind kind ≡ true → StandsRight o ls x
 outer o ls x kind e f strict flow k c kept_open =
-    absurd (never_both (is_outer_kind x.kind) (ap is_outer_kind e ∙ f) k)
+    absurd (both_ways (is_outer_kind x.kind) k (ap is_outer_kind e ∙ f))
 
 module _ (o : OptionsData) (ls : List Lexeme) (h : Here) (l : Laid) (n : OpenSays ls l) (x : Lexeme)
     (start : x.start ≡ mark_of h) (flow : x.in_flow ≡ is_in_flow l) where
@@ -104,7 +83,7 @@ module _ (o : OptionsData) (ls : List Lexeme) (h : Here) (l : Laid) (n : OpenSay
   stands sort p strict f k c opened =
       let m = in_front (Placed sort) h l in
       let e = sym flow ∙ f in
-      let inside = flow_of m.brackets (front_flow (Placed sort) h l ∙ e) in
+      let inside = some_of m.brackets (front_flow (Placed sort) h l ∙ e) in
       let same = kept sort h l e in
       subst (λ (m : Mark). c < m.place.column) (sym start)
       (right_of m.columns h.place.column c

@@ -7,7 +7,7 @@ use Rattle.granit_error.specs.OptionsData.{OptionsData}
 use Rattle.granit_agreement.specs.Good.{is_fresh}
 use Rattle.granit_agreement.specs.View.{item_of}
 use Rattle.granit_agreement.proofs.WholeRuns.{none_stay}
-use Rattle.granit_agreement.proofs.StageSteps.{none_open}
+use Rattle.granit_grammar.proofs.Limit.{from_zero}
 use Rattle.granit_grammar.specs.EventMachine.{IsFresh}
 use Rattle.granit_invariants.proofs.CommentLaws.{items_given}
 use Rattle.granit_invariants.specs.Quiet.{but_comments, quiet}
@@ -17,7 +17,7 @@ use Rattle.granit_language.specs.Scope.{Scope, no_scope}
 use Rattle.granit_language.specs.Scoping.{next_scope}
 use Rattle.granit_language.specs.Seen.{Flagged, terminal_of, lexemes_flagged, read_lexemes}
 use Rattle.granit_language.specs.Telling.{one_less, indent_told}
-use Rattle.granit_language.specs.Terminal.{TerminalKind, TheEnd, Colon, Part, At, edge}
+use Rattle.granit_language.specs.Terminal.{TerminalKind, Colon, Part, At, edge}
 use Rattle.granit_lexemes.specs.Here.{start_of}
 use Rattle.granit_lexemes.specs.Lexeme.{Lexeme, Item, OfLexeme, OfComment}
 use Rattle.granit_lexemes.specs.PlainEvent.{PlainEvent}
@@ -32,7 +32,7 @@ use Rattle.granit_reading.proofs.Counting.{start_at}
 use Rattle.granit_reading.proofs.Holding.{held}
 use Rattle.granit_answers.specs.FrameColumns.{block_columns, flag_before, flagged_before, due_along}
 use Rattle.granit_answers.specs.FrameColumns.{other_columns, beside_column, with_due}
-use Rattle.granit_answers.specs.Order.{open_behind, due_if, due_behind, may_follow, EndsThere, OrderedFrom}
+use Rattle.granit_answers.specs.Order.{open_behind, due_if, due_behind, OrderedFrom}
 use Rattle.granit_answers.proofs.Answered.{asked_are}
 use Rattle.granit_answers.proofs.BracketsKept.{brackets_kept}
 use Rattle.granit_answers.proofs.ColumnLists.{due_pushed, KeysTo, edges}
@@ -42,6 +42,7 @@ use Rattle.granit_answers.proofs.KeysKept.{Aim, Anything, KeyFits, all_fit, all_
 use Rattle.granit_answers.proofs.KeysKept.{none_due, none_left}
 use Rattle.granit_answers.proofs.KeysMoved.{outer_in}
 use Rattle.granit_answers.proofs.OrderSteps.{make_order}
+use Rattle.granit_answers.proofs.RowsTold.{lexemes_joined, ordered_front}
 
 -- ---- flags of items in front of others
 
@@ -67,33 +68,7 @@ flags_before front back =
     ap (λ (y : Flagging). y.0) (flag_all (front ++ back) ∙ flag_joined front back ([], [])
     ∙ ap (flag_before front) (sym (flag_all back)) ∙ flags_split front (flagging back).0 (flagging back).1)
 
-lexemes_joined : (a b : List FlaggedItem) → lexemes_flagged (a ++ b) ≡ lexemes_flagged a ++ lexemes_flagged b
-lexemes_joined [] b = refl
-lexemes_joined (i ∷ a) b = on i.item (lexemes_joined a b)
-  where
-    on : (item : Item) → lexemes_flagged (a ++ b) ≡ lexemes_flagged a ++ lexemes_flagged b
-        → Rattle.granit_language.specs.Seen.with_lexeme item i.begins_key (lexemes_flagged (a ++ b))
-        ≡ Rattle.granit_language.specs.Seen.with_lexeme item i.begins_key (lexemes_flagged a) ++ lexemes_flagged b
-    on (OfLexeme l) e = ap (λ (fs : List Flagged). (l, i.begins_key) ∷ fs) e
-    on (OfComment c) e = e
-
 -- ---- the front of a list in order
-
-ends_first : (kind : TerminalKind) (fs bs : List Flagged) → EndsThere kind (fs ++ bs) → EndsThere kind fs
-ends_first TheEnd [] bs e = refl
-ends_first TheEnd (f ∷ fs) bs e = absurd cc
-ends_first kind fs bs e = tt
-
-ordered_front : (fs more : List Flagged) (s : Scope) (bs : List Bracket) (due : Option ℕ) (may : Bool)
-    → OrderedFrom (fs ++ more) s bs due may → OrderedFrom fs s bs due may
-ordered_front [] more s bs due may p = tt
-ordered_front (f ∷ fs) more s bs due may p =
-    let x = terminal_of f.1 s f.0 in (
-      p.0,
-      ends_first x.kind fs more p.1,
-      ordered_front fs more (next_scope x.kind s) (open_behind x.kind bs)
-          (due_behind bs x.kind x.at due) (may_follow x.kind) p.2,
-    )
 
 -- ---- a column that is due is counted from 1
 
@@ -199,7 +174,7 @@ module _ (o : OptionsData) (x : List ℕ) (front back : List Item) (s t : Reader
       (record { last = m; count = 0; names = []; handles = []; kept = []; given = [] }) (parser_start m)
       (but_comments gs)
       (quiet o p)
-      is_fresh (refl, refl, refl, refl, refl, none_stay o.keep_tags) (none_open o.block_nesting_limit) refl
+      is_fresh (refl, refl, refl, refl, refl, none_stay o.keep_tags) (from_zero o.block_nesting_limit) refl
       (inl suits_fresh)
       (record { columns = refl; over = tt; sits = tt }) front_order front_keys refl tt alone in
       l.are ∙ ap (λ cs. map one_less (due_pushed Due cs)) l.says

@@ -1,8 +1,7 @@
 -- The frames that the parser has behind lexemes, with the columns that the reader keeps.
 use Rattle.std.proofs.Common.{◌≡◌, ℕ, Bool, true, false, List, [], ◌∷◌, map, Option, Some, None, ◌⊎◌, inl, inr, Result}
-use Rattle.std.proofs.Common.{Ok, Err, refl, sym, ap, ◌∙◌, subst, arith}
+use Rattle.std.proofs.Common.{Ok, Err, refl, sym, ap, ◌∙◌, subst}
 use Rattle.std.specs.Prelude.{nat_lt, nat_le}
-use Rattle.std.proofs.lemmas.Bool.Decides.{nat_tests}
 use Rattle.granit_error.specs.OptionsData.{OptionsData}
 use Rattle.granit_agreement.specs.Fair.{frame_ends_at}
 use Rattle.granit_agreement.specs.Good.{Good}
@@ -39,7 +38,7 @@ use Rattle.granit_machine.specs.Closing.{close}
 use Rattle.granit_lexemes.specs.Pieces.{with_front}
 use Rattle.granit_machine.specs.Parser.{take_token}
 use Rattle.granit_machine.specs.TokenSort.{token_of}
-use Rattle.granit_reading.proofs.ColumnsKept.{chosen, pop, unless_top, push, pop_at_most, pop_below}
+use Rattle.granit_reading.proofs.ColumnsKept.{chosen, pop, unless_top, push, pop_at_most, pop_below, at_most_more}
 use Rattle.granit_answers.specs.FrameColumns.{block_columns, due_along}
 use Rattle.granit_answers.specs.Order.{open_behind, due_if, due_behind, may_follow, InOrder, EndsThere, OrderedFrom}
 use Rattle.granit_answers.proofs.ColumnLists.{due_pushed, columns_behind, KeysTo}
@@ -67,10 +66,6 @@ pub record Stands (st : EventState) (due : Option ℕ) (cs : List ℕ) : Type 0 
   pub columns : state_columns st ≡ due_pushed due cs
   pub over : DueOver due cs
   pub sits : StateSits st
-
-at_most_up : (k c : ℕ) (ns : List ℕ) → nat_lt k c ≡ false → AtMost c ns → AtMost k ns
-at_most_up k c [] e p = tt
-at_most_up k c (n ∷ ns) e p = (let q = p.0 in grind (arith, nat_tests, e, q), at_most_up k c ns e p.1)
 
 none_gone : (k : ℕ) (ns : List ℕ) → AtMost k ns → pop k ns ≡ ns
 none_gone k [] p = refl
@@ -110,7 +105,7 @@ module _ (i : At) (d : ℕ) (cs : List ℕ) (over : AtMost d cs) where
   stays_due : (r : ℕ) → nat_lt r d ≡ false → (pop r (push d cs) ≡ push d (pop r cs)) × AtMost d (pop r cs)
   stays_due r e = (
     top_kept r d (unless_top d cs) e
-        ∙ sym (ap (push d) (none_gone r cs (at_most_up r d cs e over))),
+        ∙ sym (ap (push d) (none_gone r cs (at_most_more r d cs e over))),
     pop_at_most d r cs over,
   )
 

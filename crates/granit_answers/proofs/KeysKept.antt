@@ -6,6 +6,7 @@ use Rattle.std.proofs.lemmas.Bool.Decides.{nat_tests}
 use Rattle.granit_base.specs.Place.{Place, Mark}
 use Rattle.granit_error.specs.OptionsData.{OptionsData}
 use Rattle.granit_language.specs.Seen.{terminal_kind, terminal_of, at_of, lexemes_flagged, read_lexemes}
+use Rattle.granit_language.specs.Seen.{key_number as start_number}
 use Rattle.granit_language.specs.Before.{freshened, closed_for}
 use Rattle.granit_language.specs.Fitting.{role_of, role_fits, keys_behind}
 use Rattle.granit_language.specs.Reached.{ends_column_by, Reads, of_comment, of_lexeme, Reached, stops, goes_on}
@@ -34,12 +35,13 @@ use Rattle.granit_reading.proofs.ColumnsLaw.{same_self, closed_brackets, closed_
 use Rattle.granit_reading.proofs.ColumnsWhole.{fresh_kept}
 use Rattle.granit_reading.proofs.Counting.{At, Ahead, ahead_self, ahead_then, start_at}
 use Rattle.granit_reading.proofs.Holding.{key_number, held, full, fresh-within}
-use Rattle.granit_reading.proofs.Moving.{start_number, agrees_held, lexeme_moved, closed_held}
+use Rattle.granit_reading.proofs.KeysLaw.{named}
+use Rattle.granit_reading.proofs.Moving.{agrees_held, lexeme_moved, closed_held}
 use Rattle.granit_reading.proofs.PlacesLaw.{gap_passes, given_places}
 use Rattle.granit_reading.proofs.Telling.{Agrees, gap_agrees, telling}
 use Rattle.granit_answers.specs.FrameColumns.{flag_before}
 use Rattle.granit_answers.specs.Order.{open_behind, closes_innermost, due_behind, KeepsKey, KeysFrom}
-use Rattle.granit_answers.proofs.BracketsKept.{fresh_kinds, named, closed_same, run_flow}
+use Rattle.granit_answers.proofs.BracketsKept.{fresh_kinds, closed_same, run_flow}
 use Rattle.granit_answers.proofs.BracketsPassed.{kinds_in, kinds_flow, Passed, passed}
 use Rattle.granit_answers.proofs.ColumnLists.{KeysTo, keys_from, columns_behind, edges, columns_move}
 use Rattle.granit_answers.proofs.KeysMoved.{outer_in, due_by_key, chosen_outer, below_outer, due_same, KeyMove}
@@ -93,7 +95,7 @@ abbrev StandsBehind : Laid → Lexeme → Type 0
 StandsBehind l x = (k : PossibleKey) → l.brackets ≡ [] → l.key ≡ Some k
     → nat_lt x.start.place.column k.start.place.column ≡ false
 
-shut : (bs : List OpenBracket) → kinds_in bs ≡ [] → bs ≡ []
+pub shut : (bs : List OpenBracket) → kinds_in bs ≡ [] → bs ≡ []
 shut [] e = refl
 shut (b ∷ bs) e = absurd cc
 

@@ -69,7 +69,7 @@ pub record KeyMove (old : Option PossibleKey) (x : Lexeme) (new : Option Possibl
   pub ends : x.in_flow ≡ false → EntryOf x.kind x.key x.start.place.column [] x.start.place.column
       ⊎ (is_outer_kind x.kind ≡ true) → new ≡ None
 
-clash : {A : Type 0} (v : Bool) → v ≡ true → v ≡ false → A
+pub clash : {A : Type 0} (v : Bool) → v ≡ true → v ≡ false → A
 clash v e f = absurd cc
 
 key_gone : (old : Option PossibleKey) (x : Lexeme) (new : Option PossibleKey) → new ≡ None → KeyMove old x new

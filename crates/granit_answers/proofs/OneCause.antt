@@ -18,6 +18,7 @@ use Rattle.granit_lexemes.specs.Here.{start_of}
 use Rattle.granit_lexemes.specs.Lexeme.{Item}
 use Rattle.granit_lexemes.specs.Outcome.{Fault}
 use Rattle.granit_lexemes.specs.PlainEvent.{PlainEvent}
+use Rattle.granit_machine.proofs.ClosingLemmas.{FeedGiven}
 use Rattle.granit_machine.specs.Frames.{ParserState}
 use Rattle.granit_machine.specs.Lexing.{flagged, lex}
 use Rattle.granit_machine.specs.Machine.{feed_all, run}
@@ -26,7 +27,7 @@ use Rattle.granit_machine.specs.ReaderState.{ReaderState, reader_start}
 use Rattle.granit_reading.proofs.WholeLaw.{one_whole}
 use Rattle.granit_answers.specs.Answers.{AnswersReading}
 use Rattle.granit_answers.proofs.Answered.{bare_run, bare_reads, bare_answered, Shown}
-use Rattle.granit_answers.proofs.Asked.{Fed, Asked, asked_run, asked_to_end, bare_of, bare_silent, same_answer}
+use Rattle.granit_answers.proofs.Asked.{Asked, asked_run, asked_to_end, bare_of, bare_silent, same_answer}
 use Rattle.granit_answers.proofs.RowsTold.{Start, none_told, unasked_none}
 use Rattle.granit_answers.proofs.Caused.{read_whole, answered_by, reading_by}
 use Rattle.granit_answers.proofs.CommentsCaused.{any_fault_caused, comments_answered}
@@ -34,7 +35,7 @@ use Rattle.granit_answers.proofs.CommentsCaused.{any_fault_caused, comments_answ
 -- ---- what is answered is a reading
 
 module _ (o : OptionsData) (x : List ℕ) where
-  shown_given : (r : Fed) (es : List PlainEvent) → Shown o x r ≡ Ok es →
+  shown_given : (r : FeedGiven) (es : List PlainEvent) → Shown o x r ≡ Ok es →
       (gs : List PlainEvent) × (p : ParserState) × (r ≡ Ok (gs, p))
   shown_given (Ok (gs, p)) es e = (gs, p, refl)
   shown_given (Err f) es e = absurd cc

@@ -1,5 +1,5 @@
 -- What is told of a text, and whether one of its comments is one too many.
-use Rattle.std.proofs.Common.{◌≡◌, ℕ, Bool, true, false, not, List, [], ◌∷◌, ◌++◌, map, Option, None, Ok, refl, sym, ap}
+use Rattle.std.proofs.Common.{◌≡◌, ℕ, Bool, true, false, not, List, [], ◌∷◌, ◌++◌, map, None, Ok, refl, sym, ap}
 use Rattle.std.proofs.Common.{◌∙◌, subst, append_assoc}
 use Rattle.std.proofs.lemmas.List.{append-nil}
 use Rattle.granit_error.specs.OptionsData.{OptionsData}
@@ -10,55 +10,57 @@ use Rattle.granit_agreement.proofs.Waitings.{waits_awaits, awaits_waits}
 use Rattle.granit_grammar.specs.EventMachine.{IsFresh}
 use Rattle.granit_invariants.specs.RefusedRows.{RefusesRow, NoRow, FirstRow}
 use Rattle.granit_language.specs.CommentRows.{RowTooLong, up_to}
-use Rattle.granit_language.specs.Scope.{Scope, no_scope}
-use Rattle.granit_language.specs.Scoping.{next_scope}
-use Rattle.granit_language.specs.Seen.{Flagged, terminal_of, lexemes_flagged}
-use Rattle.granit_language.specs.Terminal.{TerminalKind, TheEnd}
+use Rattle.granit_language.specs.Scope.{no_scope}
+use Rattle.granit_language.specs.Seen.{Flagged, lexemes_flagged}
 use Rattle.granit_language.specs.TextFault.{IsSettled, IsUnsettled, ItemsSettled, FirstUnsettled, ItemsBefore}
 use Rattle.granit_language.specs.TextFault.{CommentTooMany, NoneTooMany, NoneTold}
 use Rattle.granit_lexemes.specs.Here.{start_of, mark_of}
 use Rattle.granit_lexemes.specs.Lexeme.{Lexeme, Item, OfLexeme, OfComment}
 use Rattle.granit_lexemes.specs.Outcome.{Fault}
-use Rattle.granit_lexemes.specs.declared.layout.Bracket.{Bracket}
 use Rattle.granit_machine.specs.Frames.{ParserState, parser_start}
 use Rattle.granit_machine.specs.Laid.{Laid}
 use Rattle.granit_machine.specs.Lexing.{FlaggedItem, flagged, lex}
 use Rattle.granit_machine.specs.Machine.{feed_all, settled, front_if}
 use Rattle.granit_machine.specs.PossibleKeys.{is_possible}
 use Rattle.granit_machine.specs.Reader.{LexState}
-use Rattle.granit_answers.specs.Order.{EndsThere, OrderedFrom, open_behind, due_behind, may_follow}
+use Rattle.granit_answers.specs.Order.{OrderedFrom}
 use Rattle.granit_answers.proofs.Answered.{asked_are, in_order}
 use Rattle.granit_answers.proofs.OrderSteps.{ordered_fair}
+use Rattle.std.proofs.Common.{Option}
+use Rattle.granit_language.specs.Scope.{Scope}
+use Rattle.granit_language.specs.Scoping.{next_scope}
+use Rattle.granit_language.specs.Seen.{terminal_of}
+use Rattle.granit_language.specs.Terminal.{TerminalKind, TheEnd}
+use Rattle.granit_lexemes.specs.declared.layout.Bracket.{Bracket}
+use Rattle.granit_answers.specs.Order.{open_behind, due_behind, may_follow, EndsThere}
 
--- ---- items that others begin with
-
-flagged_append : (xs ys : List FlaggedItem) → lexemes_flagged (xs ++ ys) ≡ lexemes_flagged xs ++ lexemes_flagged ys
-flagged_append [] ys = refl
-flagged_append (i ∷ xs) ys = one i.item i.begins_key (flagged_append xs ys)
+pub lexemes_joined : (a b : List FlaggedItem) → lexemes_flagged (a ++ b) ≡ lexemes_flagged a ++ lexemes_flagged b
+lexemes_joined [] b = refl
+lexemes_joined (i ∷ a) b = on i.item (lexemes_joined a b)
   where
-    one :
-        (x : Item) (b : Bool) → lexemes_flagged (xs ++ ys) ≡ lexemes_flagged xs ++ lexemes_flagged ys →
-        lexemes_flagged (record { item = x; begins_key = b } ∷ (xs ++ ys))
-        ≡ lexemes_flagged (record { item = x; begins_key = b } ∷ xs) ++ lexemes_flagged ys
-    one (OfComment c) b e = e
-    one (OfLexeme l) b e = ap (λ (fs : List Flagged). (l, b) ∷ fs) e
+    on : (item : Item) → lexemes_flagged (a ++ b) ≡ lexemes_flagged a ++ lexemes_flagged b
+        → Rattle.granit_language.specs.Seen.with_lexeme item i.begins_key (lexemes_flagged (a ++ b))
+        ≡ Rattle.granit_language.specs.Seen.with_lexeme item i.begins_key (lexemes_flagged a) ++ lexemes_flagged b
+    on (OfLexeme l) e = ap (λ (fs : List Flagged). (l, i.begins_key) ∷ fs) e
+    on (OfComment c) e = e
 
-ends_front : (kind : TerminalKind) (fs gs : List Flagged) → EndsThere kind (fs ++ gs) → EndsThere kind fs
-ends_front TheEnd [] gs e = refl
-ends_front TheEnd (f ∷ fs) gs e = absurd cc
-ends_front kind fs gs e = tt
+pub ends_first : (kind : TerminalKind) (fs bs : List Flagged) → EndsThere kind (fs ++ bs) → EndsThere kind fs
+ends_first TheEnd [] bs e = refl
+ends_first TheEnd (f ∷ fs) bs e = absurd cc
+ends_first kind fs bs e = tt
 
-order_front :
-    (fs gs : List Flagged) (s : Scope) (bs : List Bracket) (due : Option ℕ) (may : Bool) →
-    OrderedFrom (fs ++ gs) s bs due may → OrderedFrom fs s bs due may
-order_front [] gs s bs due may p = tt
-order_front (f ∷ fs) gs s bs due may p =
+pub ordered_front : (fs more : List Flagged) (s : Scope) (bs : List Bracket) (due : Option ℕ) (may : Bool)
+    → OrderedFrom (fs ++ more) s bs due may → OrderedFrom fs s bs due may
+ordered_front [] more s bs due may p = tt
+ordered_front (f ∷ fs) more s bs due may p =
     let x = terminal_of f.1 s f.0 in (
       p.0,
-      ends_front x.kind fs gs p.1,
-      order_front fs gs (next_scope x.kind s) (open_behind x.kind bs) (due_behind bs x.kind x.at due)
-          (may_follow x.kind) p.2,
+      ends_first x.kind fs more p.1,
+      ordered_front fs more (next_scope x.kind s) (open_behind x.kind bs)
+          (due_behind bs x.kind x.at due) (may_follow x.kind) p.2,
     )
+
+-- ---- items that others begin with
 
 -- ---- the items before a fault
 
@@ -157,9 +159,9 @@ module _ (o : OptionsData) (x : List ℕ) where
         FairRun (lexemes_flagged xs) no_scope IsFresh
     prefix_fair xs ys same =
         ordered_fair (lexemes_flagged xs)
-        (order_front (lexemes_flagged xs) (lexemes_flagged ys) no_scope [] None false
+        (ordered_front (lexemes_flagged xs) (lexemes_flagged ys) no_scope [] None false
         (subst (λ (fs : List Flagged). OrderedFrom fs no_scope [] None false)
-        (ap lexemes_flagged same ∙ flagged_append xs ys) (in_order o x items t e)))
+        (ap lexemes_flagged same ∙ lexemes_joined xs ys) (in_order o x items t e)))
 
     row_fair :
         (given more : List FlaggedItem) (front : List FlaggedItem) (f : Fault) →

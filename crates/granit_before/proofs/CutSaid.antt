@@ -25,7 +25,7 @@ use Rattle.granit_lexemes.specs.PlainExtent.{Separation, separation_text, IsSepa
 use Rattle.granit_lexemes.specs.PlainExtent.{behind_of}
 use Rattle.granit_lexemes.specs.declared.layout.OpenBracket.{OpenBracket}
 use Rattle.granit_lexemes.specs.PlainScalar.{PlainRead}
-use Rattle.granit_lexemes.proofs.HereLemmas.{not_empty}
+use Rattle.granit_lexemes.proofs.HereLemmas.{not_empty, stepped_text}
 use Rattle.granit_machine.specs.Laid.{Laid, is_in_flow, is_nonempty}
 use Rattle.granit_machine.specs.LexemeSort.{OpenSign, CloseSign, CommaSign, DashSign, QuestionSign, ColonSign}
 use Rattle.granit_machine.specs.LexemeSort.{AliasSign, AnchorSign, TagSign, BlockSign, QuoteSign, PlainSign, StrayMark}
@@ -35,16 +35,16 @@ use Rattle.granit_machine.specs.NodeLexemes.{note_items}
 use Rattle.granit_machine.specs.PossibleKeys.{fresh_bracket}
 use Rattle.granit_machine.specs.Reader.{is_end}
 use Rattle.granit_machine.specs.ReaderState.{ReaderState, reader_start}
+use Rattle.granit_reading.proofs.ColumnsLaw.{front_flow}
 use Rattle.granit_reading.proofs.ColumnsWhole.{latest_noted, latest_joined}
 use Rattle.granit_reading.proofs.Counting.{At, start_at, to_over, place_index}
 use Rattle.granit_reading.proofs.PlacesLaw.{gap_passes, given_places}
 use Rattle.granit_reading.proofs.Telling.{gap_agrees, telling}
 use Rattle.granit_scalars.proofs.PlainSpelling.{separation_gap, same_front, same_separation}
-use Rattle.granit_scalars.proofs.QuotedEscapes.{over_text, text_behind}
+use Rattle.granit_scalars.proofs.QuotedEscapes.{over_text}
 use Rattle.granit_before.proofs.FieldsSaid.{mapped_nonempty}
 use Rattle.granit_before.proofs.LayoutSaid.{layout_said, one_layout}
 use Rattle.granit_before.proofs.OuterWhole.{end_read}
-use Rattle.granit_before.proofs.TabsLeft.{front_flow}
 use Rattle.granit_before.specs.CutText.{LastCutsShort}
 use Rattle.granit_before.specs.ScalarLayout.{ScalarLayout}
 
@@ -139,7 +139,7 @@ over_index : (cs more : List ℕ) (h : Here) → h.unread.text ≡ cs ++ more �
     (over cs h).place.index ≡ h.place.index + length cs
 over_index [] more h e = let n = h.place.index in omega arith
 over_index (c ∷ cs) more h e =
-    let p = over_index cs more (step h) (text_behind h c (cs ++ more) e) in
+    let p = over_index cs more (step h) (stepped_text h c (cs ++ more) e) in
     let q = step_index h c (cs ++ more) e in
     omega (arith, p, q)
 

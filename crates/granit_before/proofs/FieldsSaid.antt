@@ -1,6 +1,8 @@
 -- What each lexeme of a text bears is what the lexemes before it say.
 use Rattle.std.proofs.Common.{◌≡◌, ℕ, ◌&&◌, ◌||◌, not, Bool, true, false, List, [], ◌∷◌, ◌++◌, map, Option, Some}
 use Rattle.std.proofs.Common.{None, inl, inr, refl, sym, ap, ap₂, ◌∙◌, subst, arith}
+use Rattle.std.proofs.Math.Nat.{le_refl}
+use Rattle.std.proofs.lemmas.Bool.{le-ltb}
 use Rattle.std.specs.Bool.{Decides}
 use Rattle.std.specs.Prelude.{nat_lt}
 use Rattle.std.proofs.lemmas.Bool.Decides.{nat_tests, Decides-at, Decides-like}
@@ -27,6 +29,8 @@ use Rattle.granit_machine.specs.NodeLexemes.{note_items}
 use Rattle.granit_machine.specs.PossibleKeys.{fresh_bracket}
 use Rattle.granit_machine.specs.Reader.{is_end}
 use Rattle.granit_machine.specs.ReaderState.{ReaderState, reader_start}
+use Rattle.granit_reading.proofs.ColumnsKept.{at_most_has}
+use Rattle.granit_reading.proofs.ColumnsLaw.{front_flow, cols}
 use Rattle.granit_reading.proofs.ColumnsWhole.{agrees_said, fresh_said}
 use Rattle.granit_reading.proofs.Counting.{At, start_at}
 use Rattle.granit_reading.proofs.Deciding.{flow_decided}
@@ -35,14 +39,11 @@ use Rattle.granit_reading.proofs.RunsKept.{Signed}
 use Rattle.granit_reading.proofs.RunsWhole.{read_runs, start_says}
 use Rattle.granit_reading.proofs.Telling.{SaysOf, gap_agrees, telling}
 use Rattle.granit_before.proofs.HeldWhole.{HeldSay, read_held, inside_said}
-use Rattle.granit_before.proofs.TabsInnermost.{columns_in, at_most}
-use Rattle.granit_before.proofs.TabsLeft.{front_flow}
 use Rattle.granit_before.specs.Fields.{EndsColumn, FieldsSay, AllFieldsSay}
+use Rattle.granit_before.proofs.TabsLeft.{same_head}
+use Rattle.granit_before.proofs.QuestionSaid.{front_last}
 
 -- ---- whether a lexeme ends a column, as it is told
-
-same_head : {x y : Lexeme} {xs ys : List Item} → ◌≡◌ {A = List Item} (OfLexeme x ∷ xs) (OfLexeme y ∷ ys) → x ≡ y
-same_head e = cc (e)
 
 head_ends : {x y : Lexeme} {xs ys : List Item} → ◌≡◌ {A = List Item} (OfLexeme x ∷ xs) (OfLexeme y ∷ ys) →
     y.ends_column ≡ x.ends_column
@@ -114,9 +115,6 @@ outer_is (Placed NoSign) h l x s = absurd s
 left_then : (k c d : ℕ) → nat_lt k c ≡ true → nat_lt d c ≡ false → nat_lt k d ≡ true
 left_then k c d e f = grind (arith, nat_tests, e, f)
 
-never_less : (d : ℕ) → nat_lt d d ≡ false
-never_less d = grind (arith, nat_tests)
-
 not_false : (b : Bool) → (b ≡ false → ⊥) → b ≡ true
 not_false true n = refl
 not_false false n = absurd (n refl)
@@ -135,14 +133,14 @@ module _ (ls : List Lexeme) (l : Laid) (said : ColumnsSay ls l) (x : Lexeme) (h 
       on : (cs : List OpenColumn) → l.columns ≡ cs → Decides (is_nonempty cs) (EndsColumn ls x)
       on [] f = (
         λ t. absurd cc,
-        λ p. absurd (subst (Has p.column) (ap columns_in f)
+        λ p. absurd (subst (Has p.column) (ap cols f)
             (said.are_kept p.column p.open_there)),
       )
       on (c ∷ cs) f = (
         λ t. record {
           outside = flow ∙ e;
           column = c.column;
-          open_there = said.are_open c.column (subst (Has c.column) (sym (ap columns_in f)) (inl refl));
+          open_there = said.are_open c.column (subst (Has c.column) (sym (ap cols f)) (inl refl));
           ends = λ q. let z = sym (q (flow ∙ e)).0 ∙ u in cc;
         },
         λ p. refl,
@@ -162,25 +160,25 @@ module _ (ls : List Lexeme) (l : Laid) (said : ColumnsSay ls l) (x : Lexeme) (h 
           Decides (is_right_of_column h.place.column cs) (EndsColumn ls x)
       on [] f = (
         λ t. absurd cc,
-        λ p. absurd (subst (Has p.column) (ap columns_in f)
+        λ p. absurd (subst (Has p.column) (ap cols f)
             (said.are_kept p.column p.open_there)),
       )
       on (c ∷ cs) f = (
         λ t. record {
           outside = flow ∙ e;
           column = c.column;
-          open_there = said.are_open c.column (subst (Has c.column) (sym (ap columns_in f)) (inl refl));
+          open_there = said.are_open c.column (subst (Has c.column) (sym (ap cols f)) (inl refl));
           ends = λ q. let z = sym (q (flow ∙ e)).1 ∙ (ap (λ k. nat_lt k c.column) column ∙ t) in cc;
         },
         λ p. left_then h.place.column p.column c.column (left p.column p.ends)
-            (least p.column (subst (Has p.column) (ap columns_in f) (said.are_kept p.column p.open_there))),
+            (least p.column (subst (Has p.column) (ap cols f) (said.are_kept p.column p.open_there))),
       )
         where
-          least : (d : ℕ) → Has d (columns_in (c ∷ cs)) → nat_lt c.column d ≡ false
-          least d (inl q) = subst (λ d. nat_lt c.column d ≡ false) q (never_less c.column)
+          least : (d : ℕ) → Has d (cols (c ∷ cs)) → nat_lt c.column d ≡ false
+          least d (inl q) = subst (λ d. nat_lt c.column d ≡ false) q (le-ltb c.column c.column (le_refl c.column))
           least d (inr q) =
-              let falls : Falls (columns_in (c ∷ cs)) = subst Falls (ap columns_in f) said.fall in
-              at_most c.column d (columns_in cs) falls.0 q
+              let falls : Falls (cols (c ∷ cs)) = subst Falls (ap cols f) said.fall in
+              at_most_has c.column d (cols cs) falls.0 q
 
   ends_decided : (s : ReaderState) → s.laid ≡ l → s.here ≡ h → (sort : LexemeSort) (m : Laid) →
       SaysOf sort h m x → Decides (ends_column_by sort s) (EndsColumn ls x)
@@ -199,21 +197,6 @@ module _ (ls : List Lexeme) (l : Laid) (said : ColumnsSay ls l) (x : Lexeme) (h 
       by Unprintable p = absurd p
 
 -- ---- one read
-
-front_last : (sort : LexemeSort) (h : Here) (l : Laid) → (in_front sort h l).last ≡ l.last
-front_last TextEnd h l = refl
-front_last Unprintable h l = refl
-front_last StartMark h l = refl
-front_last EndMark h l = refl
-front_last DirectiveSign h l = refl
-front_last (Placed (OpenSign bracket)) h l = refl
-front_last (Placed AliasSign) h l = refl
-front_last (Placed AnchorSign) h l = refl
-front_last (Placed TagSign) h l = refl
-front_last (Placed (BlockSign literal)) h l = refl
-front_last (Placed (QuoteSign single)) h l = refl
-front_last (Placed PlainSign) h l = refl
-front_last (Placed sort) h l = refl
 
 pub mapped_nonempty : (f : OpenBracket → OpenBracket) (bs : List OpenBracket) → is_nonempty (map f bs) ≡ is_nonempty bs
 mapped_nonempty f [] = refl

@@ -1,14 +1,15 @@
 -- A lexeme is flagged exactly where a simple key begins with it.
-use Rattle.std.proofs.Common.{◌≡◌, ℕ, suc, ◌<◌, ◌==◌, Bool, true, false, List, [], ◌∷◌, length, Option, Some, None}
+use Rattle.std.proofs.Common.{◌≡◌, ℕ, suc, ◌<◌, Bool, true, false, List, [], ◌∷◌, length, Option, Some, None}
 use Rattle.std.proofs.Common.{◌⊎◌, inl, inr, refl, sym, ap, ◌∙◌, subst, arith}
+use Rattle.std.proofs.lemmas.Bool.{eqb-true}
 use Rattle.std.specs.Bool.{Decides}
-use Rattle.std.proofs.lemmas.Bool.Decides.{nat_tests}
 use Rattle.granit_error.specs.OptionsData.{OptionsData}
 use Rattle.granit_language.specs.Fitting.{Role, OfNode, Opens, Closes, Keyed, Other, role_of, with_inner_key}
 use Rattle.granit_language.specs.Fitting.{outer_keys, without_inner_key, keys_behind, is_inner_key, role_fits}
 use Rattle.granit_language.specs.Fitting.{ItemKeysFit}
 use Rattle.granit_language.specs.KeyRuns.{Run, MayBeKey, too_far, HasKey, NoKey, no_run, no_key, ColonSays}
 use Rattle.granit_language.specs.KeyRuns.{ColonsSay}
+use Rattle.granit_language.specs.OpenColumns.{Has}
 use Rattle.granit_language.specs.Reached.{Reached}
 use Rattle.granit_lexemes.specs.Here.{start_of}
 use Rattle.granit_lexemes.specs.Lexeme.{LexemeKind, Colon, KeyStart, Lexeme, Item, OfLexeme, OfComment}
@@ -32,42 +33,35 @@ NamedIn n [] = ⊥
 NamedIn n (OfLexeme y ∷ is) = Names y n ⊎ NamedIn n is
 NamedIn n (OfComment c ∷ is) = NamedIn n is
 
-abbrev InNumbers : ℕ → List ℕ → Type 0
-InNumbers n [] = ⊥
-InNumbers n (m ∷ ns) = (m ≡ n) ⊎ InNumbers n ns
-
-in_others : (n : ℕ) (ns : List ℕ) → InNumbers n (others ns) → InNumbers n ns
+in_others : (n : ℕ) (ns : List ℕ) → Has n (others ns) → Has n ns
 in_others n [] p = p
 in_others n (m ∷ ns) p = inr p
 
 lexeme_named : (n : ℕ) (before : List Lexeme) (y : Lexeme) (is : List Item) (ns : List ℕ) → Bears before y →
-    (InNumbers n ns → NamedIn n is) → InNumbers n (and_key y.key ns) → Names y n ⊎ NamedIn n is
+    (Has n ns → NamedIn n is) → Has n (and_key y.key ns) → Names y n ⊎ NamedIn n is
 lexeme_named n before y is ns b more p = on y.key refl p
   where
-    on : (key : Option KeyStart) → y.key ≡ key → InNumbers n (and_key key ns) → Names y n ⊎ NamedIn n is
+    on : (key : Option KeyStart) → y.key ≡ key → Has n (and_key key ns) → Names y n ⊎ NamedIn n is
     on None e q = inr (more q)
     on (Some k) e (inl q) = inl (k, e, b.keyed k e, q)
     on (Some k) e (inr q) = inr (more q)
 
-flags_named : (n : ℕ) (before : List Lexeme) (is : List Item) → ItemsBear before is → InNumbers n (flagging is).1 →
+flags_named : (n : ℕ) (before : List Lexeme) (is : List Item) → ItemsBear before is → Has n (flagging is).1 →
     NamedIn n is
 flags_named n before [] b p = absurd p
 flags_named n before (OfComment c ∷ is) b p = flags_named n before is b p
 flags_named n before (OfLexeme y ∷ is) b p =
     on (is_nearest y.number (flagging is).1) (λ p. flags_named n (y ∷ before) is b.1 p) p
   where
-    on : (v : Bool) → (InNumbers n (flagging is).1 → NamedIn n is) →
-        InNumbers n (flag_lexeme v y (flagging is)).1 → Names y n ⊎ NamedIn n is
+    on : (v : Bool) → (Has n (flagging is).1 → NamedIn n is) →
+        Has n (flag_lexeme v y (flagging is)).1 → Names y n ⊎ NamedIn n is
     on true more p =
         lexeme_named n before y is (others (flagging is).1) b.0 (λ p. more (in_others n (flagging is).1 p)) p
     on false more p = lexeme_named n before y is (flagging is).1 b.0 more p
 
-same_number : (n m : ℕ) → (n == m) ≡ true → n ≡ m
-same_number n m e = grind (arith, nat_tests, e)
-
-nearest_in : (n : ℕ) (ns : List ℕ) → is_nearest n ns ≡ true → InNumbers n ns
+nearest_in : (n : ℕ) (ns : List ℕ) → is_nearest n ns ≡ true → Has n ns
 nearest_in n [] e = absurd cc
-nearest_in n (m ∷ ns) e = inl (same_number m n e)
+nearest_in n (m ∷ ns) e = inl (eqb-true m n e)
 
 -- ---- what a named number says of the lexemes
 
@@ -218,7 +212,7 @@ behind_not Other flag n m ks e p = p
 not_inner : (n : ℕ) (ks : List (Option ℕ)) → KeysNot n ks → is_inner_key n ks ≡ true → ⊥
 not_inner n [] p e = absurd cc
 not_inner n (None ∷ ks) p e = absurd cc
-not_inner n (Some m ∷ ks) p e = p.0 (sym (same_number n m e))
+not_inner n (Some m ∷ ks) p e = p.0 (sym (eqb-true n m e))
 
 later_not : (n b m : ℕ) → n < b → m ≡ b → m ≡ n → ⊥
 later_not n b m e f g = omega (arith, e, f, g)

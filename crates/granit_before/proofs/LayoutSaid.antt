@@ -1,9 +1,11 @@
 -- The layout that a scalar is told is what the lexemes before it say.
-use Rattle.std.proofs.Common.{◌≡◌, ◌≢◌, ℕ, ◌+◌, ◌≤◌, ◌==◌, ◌&&◌, ◌||◌, not, Bool, true, false, List, [], ◌∷◌, map}
-use Rattle.std.proofs.Common.{Option, Some, None, refl, sym, ap, ap₂, ◌∙◌, subst, arith}
+use Rattle.std.proofs.Common.{◌≡◌, ◌≢◌, ℕ, ◌+◌, ◌==◌, ◌&&◌, ◌||◌, not, Bool, true, false, List, [], ◌∷◌}
+use Rattle.std.proofs.Common.{Option, Some, None, refl, sym, ap, ap₂, ◌∙◌, subst}
+use Rattle.std.proofs.Math.Nat.{le_antisymm}
+use Rattle.std.proofs.lemmas.Bool.{ltb-false}
 use Rattle.std.specs.Bool.{Decides}
-use Rattle.std.specs.Prelude.{if◌then◌else◌, nat_lt}
-use Rattle.std.proofs.lemmas.Bool.Decides.{nat_tests, Decides-and, Decides-or, Decides-not}
+use Rattle.std.specs.Prelude.{if◌then◌else◌}
+use Rattle.std.proofs.lemmas.Bool.Decides.{Decides-and, Decides-or, Decides-not}
 use Rattle.granit_base.specs.Place.{Mark}
 use Rattle.granit_error.specs.OptionsData.{OptionsData}
 use Rattle.granit_language.specs.Allowed.{LayoutIs}
@@ -21,30 +23,24 @@ use Rattle.granit_machine.specs.Laid.{Laid, is_nonempty, is_in_flow, innermost_c
 use Rattle.granit_machine.specs.LexemeSort.{PlacedSort, Placed}
 use Rattle.granit_machine.specs.PossibleKeys.{fresh_bracket, is_wide_at, tab_column_of, layout_of}
 use Rattle.granit_machine.specs.ReaderState.{ReaderState, reader_start}
+use Rattle.granit_reading.proofs.ColumnsLaw.{front_flow, cols}
 use Rattle.granit_reading.proofs.ColumnsWhole.{columns_said}
 use Rattle.granit_reading.proofs.Deciding.{layout_is, layout_same, is_decided, true_decided}
 use Rattle.granit_reading.proofs.Telling.{gap_agrees}
+use Rattle.granit_before.proofs.FieldsSaid.{mapped_nonempty}
 use Rattle.granit_before.proofs.HeldLow.{is_kept_here, head_least, head_open}
 use Rattle.granit_before.proofs.TabsColumns.{Widths, pop_widths}
-use Rattle.granit_before.proofs.TabsInnermost.{columns_in}
-use Rattle.granit_before.proofs.TabsLeft.{gap_tabs, run_tabs, front_flow}
+use Rattle.granit_before.proofs.TabsLeft.{gap_tabs, run_tabs}
 use Rattle.granit_before.proofs.TabsWhole.{tabs_said}
 use Rattle.granit_before.specs.ScalarLayout.{InnermostStays, NoColumnStays, BlockIs, at_root, in_block}
 use Rattle.granit_before.specs.ScalarLayout.{NoTabInColumn, TabsRefused, nowhere, left_of, and_in, ScalarLayout}
 
 columns_as : (ls : List Lexeme) {l m : Laid} → m.columns ≡ l.columns → ColumnsSay ls l → ColumnsSay ls m
 columns_as ls e s = record {
-  are_open = λ c h. s.are_open c (subst (Has c) (ap columns_in e) h);
-  are_kept = λ c p. subst (Has c) (sym (ap columns_in e)) (s.are_kept c p);
-  fall = subst Falls (sym (ap columns_in e)) s.fall;
+  are_open = λ c h. s.are_open c (subst (Has c) (ap cols e) h);
+  are_kept = λ c p. subst (Has c) (sym (ap cols e)) (s.are_kept c p);
+  fall = subst Falls (sym (ap cols e)) s.fall;
 }
-
-mapped_nonempty : (f : OpenBracket → OpenBracket) (bs : List OpenBracket) → is_nonempty (map f bs) ≡ is_nonempty bs
-mapped_nonempty f [] = refl
-mapped_nonempty f (b ∷ bs) = refl
-
-less_is : (c d : ℕ) → nat_lt c d ≡ false → d ≤ c
-less_is c d e = grind (arith, nat_tests, e)
 
 -- l is what the lexemes before it leave
 module _ (o : OptionsData) (text : List ℕ) (ls : List Lexeme) (l : Laid) (said : ColumnsSay ls l)
@@ -65,12 +61,12 @@ module _ (o : OptionsData) (text : List ℕ) (ls : List Lexeme) (l : Laid) (said
   head_stays : (c : OpenColumn) (cs : List OpenColumn) → m.columns ≡ c ∷ cs → InnermostStays ls x c.column
   head_stays c cs e = record {
     stays = head_open ls l said h x start flow outer c cs e;
-    innermost = λ d p. less_is c.column d (head_least ls l said h x start flow outer c cs e d
-        (subst (Has d) (ap columns_in e) (is_kept_here ls l said h x start flow outer d p.0 p.1)));
+    innermost = λ d p. ltb-false c.column d (head_least ls l said h x start flow outer c cs e d
+        (subst (Has d) (ap cols e) (is_kept_here ls l said h x start flow outer d p.0 p.1)));
   }
 
   none_stays : m.columns ≡ [] → NoColumnStays ls x
-  none_stays e c p = subst (Has c) (ap columns_in e) (is_kept_here ls l said h x start flow outer c p.0 p.1)
+  none_stays e c p = subst (Has c) (ap cols e) (is_kept_here ls l said h x start flow outer c p.0 p.1)
 
   wide_decided : (c : OpenColumn) (cs : List OpenColumn) → m.columns ≡ c ∷ cs →
       Decides (is_wide_at (is_in_flow l) h.place.column (c ∷ cs) || (is_in_flow l && o.strict_indentation))
@@ -133,12 +129,9 @@ module _ (o : OptionsData) (text : List ℕ) (ls : List Lexeme) (l : Laid) (said
 
 -- ---- at most one
 
-both_least : (c d : ℕ) → c ≤ d → d ≤ c → c ≡ d
-both_least c d e f = omega (arith, e, f)
-
 module _ (o : OptionsData) (text : List ℕ) (ls : List Lexeme) (x : Lexeme) where
   same_column : (c d : ℕ) → InnermostStays ls x c → InnermostStays ls x d → c ≡ d
-  same_column c d p q = both_least c d (q.innermost c p.stays) (p.innermost d q.stays)
+  same_column c d p q = le_antisymm (q.innermost c p.stays) (p.innermost d q.stays)
 
   one_block : {a b : Option ℕ} → BlockIs ls x a → BlockIs ls x b → a ≡ b
   one_block (at_root n) (at_root m) = refl

@@ -1,6 +1,8 @@
 -- The key outside all brackets, while some are open.
 use Rattle.std.proofs.Common.{◌≡◌, ℕ, ◌+◌, ◌≤◌, ◌<◌, ◌||◌, Bool, true, false, List, [], ◌∷◌, map, drop, Option}
 use Rattle.std.proofs.Common.{Some, None, ◌⊎◌, inl, inr, refl, sym, ap, ◌∙◌, subst, arith}
+use Rattle.std.proofs.Math.Nat.{le_refl}
+use Rattle.std.proofs.lemmas.Bool.{le-ltb}
 use Rattle.std.specs.Prelude.{if◌then◌else◌, nat_lt}
 use Rattle.std.proofs.lemmas.Bool.Decides.{nat_tests}
 use Rattle.granit_base.specs.Place.{Mark}
@@ -33,9 +35,6 @@ use Rattle.granit_before.specs.Openers.{Opener, openers, IsInside}
 
 -- ---- what a lexeme makes of that key
 
-never_less : (d : ℕ) → nat_lt d d ≡ false
-never_less d = grind (arith, nat_tests)
-
 never_past : (d n : ℕ) → nat_lt (d + n) d ≡ false
 never_past d n = grind (arith, nat_tests)
 
@@ -56,7 +55,7 @@ module _ (o : OptionsData) (h : Here) (l : Laid) where
   new_near k e =
       subst (λ (m : Mark). (nat_lt (m.place.index + o.simple_key_max_lookahead) h.place.index
       || nat_lt m.place.line h.place.line) ≡ false) (sym e)
-      (rw (never_past h.place.index o.simple_key_max_lookahead, never_less h.place.line) refl)
+      (rw (never_past h.place.index o.simple_key_max_lookahead, le-ltb h.place.line _ (le_refl h.place.line)) refl)
 
   start_near : (j k : PossibleKey) → k.start ≡ j.start → is_stale o false (mark_of h) j ≡ false →
       is_stale o false (mark_of h) k ≡ false

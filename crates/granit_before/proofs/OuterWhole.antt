@@ -2,7 +2,8 @@
 use Rattle.std.proofs.Common.{◌≡◌, ℕ, ◌+◌, ◌≤◌, ◌<◌, ◌||◌, ◌&&◌, not, Bool, true, false, List, [], ◌∷◌, map, Option}
 use Rattle.std.proofs.Common.{Some}
 use Rattle.std.proofs.Common.{None, inl, inr, ◌⊎◌, refl, sym, ap, ◌∙◌, subst, arith}
-use Rattle.std.specs.Prelude.{if◌then◌else◌, nat_lt}
+use Rattle.std.proofs.lemmas.Bool.{ltb-false}
+use Rattle.std.specs.Prelude.{nat_lt}
 use Rattle.std.proofs.lemmas.Bool.Decides.{nat_tests}
 use Rattle.granit_base.specs.Place.{Mark}
 use Rattle.granit_error.specs.OptionsData.{OptionsData}
@@ -23,6 +24,7 @@ use Rattle.granit_machine.specs.ReaderState.{ReaderState, reader_start}
 use Rattle.granit_reading.proofs.ColumnsLaw.{closed_brackets, closed_key}
 use Rattle.granit_reading.proofs.ColumnsWhole.{latest_noted, latest_joined}
 use Rattle.granit_reading.proofs.Counting.{At, start_at}
+use Rattle.granit_reading.proofs.KeysLaw.{fresh_some}
 use Rattle.granit_reading.proofs.PlacesLaw.{gap_passes, given_places}
 use Rattle.granit_reading.proofs.RunsKept.{Signed}
 use Rattle.granit_reading.proofs.RunsLaw.{Onward, onward, fresh_near}
@@ -57,19 +59,7 @@ fresh_all o m (b ∷ bs) key = (λ k e. fresh_near o true m key k e, each (b ∷
     each [] = tt
     each (b ∷ bs) = (λ k e. fresh_near o true m b.key k e, each bs)
 
-fresh_some : (o : OptionsData) (f : Bool) (m : Mark) (key : Option PossibleKey) (k : PossibleKey) →
-    fresh_key o f m key ≡ Some k → key ≡ Some k
-fresh_some o f m None k e = e
-fresh_some o f m (Some j) k e = on (is_stale o f m j) e
-  where
-    on : (v : Bool) → ◌≡◌ {A = Option PossibleKey} (if v then None else Some j) (Some k) → Some j ≡ Some k
-    on true e = absurd cc
-    on false e = e
-
 -- ---- behind the first bracket
-
-never_before : (a b : ℕ) → nat_lt a b ≡ false → b ≤ a
-never_before a b e = grind (arith, nat_tests, e)
 
 is_before : (a b : ℕ) → nat_lt a b ≡ true → a < b
 is_before a b e = grind (arith, nat_tests, e)
@@ -80,7 +70,7 @@ module _ (o : OptionsData) (text : List ℕ) (h : Here) (x : Lexeme) (start : x.
 
   not_later : (k : PossibleKey) → is_stale o false (mark_of h) k ≡ false → h.place.line ≤ k.start.place.line
   unfolding is_stale
-  not_later k e = never_before k.start.place.line h.place.line
+  not_later k e = ltb-false k.start.place.line h.place.line
       (second (nat_lt (k.start.place.index + o.simple_key_max_lookahead) h.place.index)
       (nat_lt k.start.place.line h.place.line) e)
     where

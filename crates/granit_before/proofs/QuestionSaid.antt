@@ -30,6 +30,21 @@ use Rattle.granit_reading.proofs.ColumnsWhole.{latest_noted, latest_joined}
 use Rattle.granit_reading.proofs.Telling.{SaysOf, telling}
 use Rattle.granit_before.specs.Tabs.{is_property_kind, BehindQuestionSign}
 
+pub front_last : (sort : LexemeSort) (h : Here) (l : Laid) → (in_front sort h l).last ≡ l.last
+front_last TextEnd h l = refl
+front_last Unprintable h l = refl
+front_last StartMark h l = refl
+front_last EndMark h l = refl
+front_last DirectiveSign h l = refl
+front_last (Placed (OpenSign bracket)) h l = refl
+front_last (Placed AliasSign) h l = refl
+front_last (Placed AnchorSign) h l = refl
+front_last (Placed TagSign) h l = refl
+front_last (Placed (BlockSign literal)) h l = refl
+front_last (Placed (QuoteSign single)) h l = refl
+front_last (Placed PlainSign) h l = refl
+front_last (Placed sort) h l = refl
+
 -- ---- what stays
 
 no_more_same : (a : LastLexeme) → is_question (no_more_adjacent a) ≡ is_question a
@@ -49,21 +64,6 @@ gap_same : {o : OptionsData} {h : Here} {l : Laid} {c : Option CommentRead} {t :
     GapStands o h l c t → is_question t.laid.last ≡ is_question l.last
 gap_same {l = l} (in_front_of_comment at end g p) = no_more_same l.last
 gap_same {l = l} (in_front_of_lexeme at g n t k) = moved_same _ l.last
-
-front_same : (sort : LexemeSort) (h : Here) (l : Laid) → (in_front sort h l).last ≡ l.last
-front_same TextEnd h l = refl
-front_same Unprintable h l = refl
-front_same StartMark h l = refl
-front_same EndMark h l = refl
-front_same DirectiveSign h l = refl
-front_same (Placed (OpenSign bracket)) h l = refl
-front_same (Placed AliasSign) h l = refl
-front_same (Placed AnchorSign) h l = refl
-front_same (Placed TagSign) h l = refl
-front_same (Placed (BlockSign literal)) h l = refl
-front_same (Placed (QuoteSign single)) h l = refl
-front_same (Placed PlainSign) h l = refl
-front_same (Placed sort) h l = refl
 
 -- ---- one lexeme
 
@@ -213,7 +213,7 @@ read_said o ls {s = s} (of_lexeme {items = items} at behind sort comes given key
     let m = in_front sort f.here f.laid in
     let t = telling o (ends_column_by sort f) f.here _ sort items behind given.1 in
     let same = ap (λ (is : List Item). latest is ls) t.are ∙ latest_noted t.lexeme t.note ls in
-    let e = ap is_question (front_same sort f.here f.laid) ∙ gap_same comes.gap in
+    let e = ap is_question (front_last sort f.here f.laid) ∙ gap_same comes.gap in
     subst (λ (l : List Lexeme). Decides (is_question behind.laid.last) (BehindQuestionSign o l)) (sym same)
     (Decides-at (is_question behind.laid.last) (question_of o sort (is_in_flow m) (is_question m.last))
     (left_by o (ends_column_by sort f) sort f.here m items behind given.1)

@@ -22,14 +22,14 @@ use Rattle.granit_machine.specs.Laid.{Laid, behind_lexeme, is_in_flow}
 use Rattle.granit_machine.specs.LexemeSort.{QuoteSign, LexemeSort, Placed}
 use Rattle.granit_machine.specs.ReaderState.{ReaderState, reader_start}
 use Rattle.granit_reading.proofs.ColumnsKept.{OpenSays, changed}
-use Rattle.granit_reading.proofs.ColumnsLaw.{columns_change}
+use Rattle.granit_reading.proofs.ColumnsLaw.{columns_change, front_flow}
 use Rattle.granit_reading.proofs.ColumnsWhole.{agrees_said, fresh_said}
 use Rattle.granit_reading.proofs.Moving.{closed_held, lexeme_moved}
 use Rattle.granit_reading.proofs.Telling.{Told, SaysOf, Agrees, gap_agrees}
 use Rattle.granit_before.proofs.HeldWhole.{opener_of, held_said, front_openers, inside_said, fresh_openers}
 use Rattle.granit_before.proofs.TabRows.{tab_there, tab_back}
 use Rattle.granit_before.proofs.TabsInnermost.{rolled_step}
-use Rattle.granit_before.proofs.TabsLeft.{gap_tabs, front_flow}
+use Rattle.granit_before.proofs.TabsLeft.{gap_tabs}
 use Rattle.granit_before.proofs.TabsWhole.{tabs_as, tabs_said}
 use Rattle.granit_before.specs.Openers.{IsInside}
 use Rattle.granit_before.specs.QuotedGap.{QuotedGapWrong, in_comment, behind_tab}

@@ -1,10 +1,11 @@
 -- An answer's reading is the declared one.
-use Rattle.std.proofs.Common.{◌≡◌, ℕ, Bool, true, List, [], ◌∷◌, ◌++◌, map, Option, Some, None, refl, sym, ap, ap₂}
+use Rattle.std.proofs.Common.{◌≡◌, ℕ, Bool, true, List, [], ◌∷◌, ◌++◌, map, refl, sym, ap, ap₂}
 use Rattle.std.proofs.Common.{◌∙◌, subst}
 use Rattle.std.specs.Prelude.{is_none}
 use Rattle.std.proofs.lemmas.Bool.Decides.{same_from_decides}
 use Rattle.std.proofs.lemmas.List.{append-nil}
 use Rattle.granit_error.specs.OptionsData.{OptionsData}
+use Rattle.granit_lexemes.proofs.PieceLemmas.{fault_none}
 use Rattle.granit_answers.specs.Answers.{AnswersReading}
 use Rattle.granit_invariants.specs.CommentEvents.{comment_events, only_comments}
 use Rattle.granit_language.specs.OpenColumns.{latest}
@@ -14,7 +15,6 @@ use Rattle.granit_language.specs.TextFault.{NoneTooMany, NoneTold}
 use Rattle.granit_language.specs.Whole.{WholeReading}
 use Rattle.granit_lexemes.specs.Here.{start_of}
 use Rattle.granit_lexemes.specs.Lexeme.{Lexeme, Item, OfLexeme, OfComment}
-use Rattle.granit_lexemes.specs.Outcome.{Fault}
 use Rattle.granit_lexemes.specs.PlainEvent.{PlainEvent}
 use Rattle.granit_machine.specs.Laid.{Laid}
 use Rattle.granit_machine.specs.Lexing.{FlaggedItem, flagged}
@@ -76,10 +76,6 @@ told_none o l items n e =
 
 -- ---- readings
 
-no_fault : (f : Option Fault) → is_none f ≡ true → f ≡ None
-no_fault None e = refl
-no_fault (Some f) e = absurd cc
-
 pub answer_declared : (o : OptionsData) (x : List ℕ) (es : List PlainEvent) → AnswersReading o x es →
     DeclaredReading o x es
 answer_declared o x es a =
@@ -113,7 +109,7 @@ declared_answer o x es d =
       items = items_of d.items;
       state = r.0;
       are_read = r.1;
-      to_end = no_fault r.0.fault r.2;
+      to_end = fault_none r.0.fault r.2;
       stand = stand;
       tree_events = d.tree_events;
       reading =

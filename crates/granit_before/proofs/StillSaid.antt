@@ -1,9 +1,9 @@
 -- A key is held possible exactly with the lexemes with which a simple key may still begin.
-use Rattle.std.proofs.Common.{◌≡◌, ℕ, ◌≤◌, ◌<◌, ◌==◌, ◌||◌, Bool, true, false, List, [], ◌∷◌, map, Option, Some, None}
+use Rattle.std.proofs.Common.{◌≡◌, ℕ, ◌≤◌, ◌<◌, ◌||◌, Bool, true, false, List, [], ◌∷◌, map, Option, Some, None}
 use Rattle.std.proofs.Common.{◌⊎◌, inl, inr, refl, sym, ap, ◌∙◌, subst, arith}
+use Rattle.std.proofs.lemmas.Bool.{eqb-true, eq-eqb, or_left, or_right}
 use Rattle.std.specs.Bool.{Decides}
 use Rattle.std.specs.List.{list_any}
-use Rattle.std.proofs.lemmas.Bool.Decides.{nat_tests}
 use Rattle.granit_base.specs.Place.{Mark}
 use Rattle.granit_error.specs.OptionsData.{OptionsData}
 use Rattle.granit_language.specs.Fitting.{Opens}
@@ -33,31 +33,13 @@ use Rattle.granit_before.specs.StillBegins.{StillBegins}
 
 -- ---- numbers of keys
 
-same_number : (a b : ℕ) → (a == b) ≡ true → a ≡ b
-same_number a b e = grind (arith, nat_tests, e)
-
-number_same : (a b : ℕ) → a ≡ b → (a == b) ≡ true
-number_same a b e = grind (arith, nat_tests, e)
-
 key_of_number : (n : ℕ) (key : Option PossibleKey) → is_of n key ≡ true →
     (k : PossibleKey) × (key ≡ Some k) × (k.number ≡ n)
 key_of_number n None e = absurd cc
-key_of_number n (Some k) e = (k, refl, same_number k.number n e)
+key_of_number n (Some k) e = (k, refl, eqb-true k.number n e)
 
 abbrev OneOf : ℕ → Option PossibleKey → List OpenBracket → Bool
 OneOf n key bs = is_of n key || list_any (λ b. is_of n b.key) bs
-
-either : (a b : Bool) → (a || b) ≡ true → (a ≡ true) ⊎ (b ≡ true)
-either true b e = inl refl
-either false b e = inr e
-
-or_first : (a b : Bool) → a ≡ true → (a || b) ≡ true
-or_first true b e = refl
-or_first false b e = absurd cc
-
-or_second : (a b : Bool) → b ≡ true → (a || b) ≡ true
-or_second true b e = refl
-or_second false b e = e
 
 -- the inner bracket's key, or one further out
 one_of : (n : ℕ) (key : Option PossibleKey) (b : OpenBracket) (bs : List OpenBracket) →
@@ -71,7 +53,7 @@ one_of n key b bs e = on (is_of n key) (is_of n b.key) (list_any (λ b. is_of n 
 
 of_inner : (n : ℕ) (key : Option PossibleKey) (b : OpenBracket) (bs : List OpenBracket) → is_of n b.key ≡ true →
     OneOf n key (b ∷ bs) ≡ true
-of_inner n key b bs e = or_second (is_of n key) _ (or_first (is_of n b.key) _ e)
+of_inner n key b bs e = or_right (is_of n key) _ (or_left (is_of n b.key) _ e)
 
 of_outer : (n : ℕ) (key : Option PossibleKey) (b : OpenBracket) (bs : List OpenBracket) → OneOf n key bs ≡ true →
     OneOf n key (b ∷ bs) ≡ true
@@ -252,7 +234,7 @@ module _ (o : OptionsData) (text : List ℕ) (m : Mark) where
   holds_number : (f : Bool) (first : Lexeme) (rest : List Lexeme) (key : Option PossibleKey) →
       HeldKeySays o text f m key first rest → (key ≡ None → ⊥) → is_of first.number key ≡ true
   holds_number f first rest None h n = absurd (n refl)
-  holds_number f first rest (Some k) h n = number_same k.number first.number h.0
+  holds_number f first rest (Some k) h n = eq-eqb k.number first.number h.0
 
   none_as : {key : Option PossibleKey} (Says : Option PossibleKey → Type 0) → Says key → key ≡ None → Says None
   none_as Says p e = subst Says e p
@@ -337,7 +319,7 @@ module _ (o : OptionsData) (text : List ℕ) (m : Mark) where
       (rest : List Lexeme) → AllFlow ls → openers ls ≡ b ∷ map opener_of bs → OuterKey o text m ls key →
       KeysAround o text m ls bs key → WaitsOutside o text m first rest ls → OneOf first.number key bs ≡ true
   still_around ls [] key b first rest a e j p (around_innermost c w) =
-      or_first (is_of first.number key) false (still_outermost b key a e j p c w)
+      or_left (is_of first.number key) false (still_outermost b key a e j p c w)
   still_around ls [] key b first rest a e j p (further_out c w) =
       let same = whole_once c.whole c.opens p.whole p.opens in
       absurd (outside_open w (ap openers same.1 ∙ around_open b [] p.whole p.opens e))
@@ -356,7 +338,7 @@ module _ (o : OptionsData) (text : List ℕ) (m : Mark) where
       Depths o text m ls bs key → WaitsHere o text m ls first rest ⊎ WaitsOutside o text m first rest ls →
       OneOf first.number key bs ≡ true
   still_depths ls [] key first rest a e j d (inl w) =
-      or_first (is_of first.number key) false
+      or_left (is_of first.number key) false
       (still_now false ls key first rest (run_in_flow [] w.run a e) w d)
   still_depths ls [] key first rest a e j d (inr w) = absurd (outside_open w (sym e))
   still_depths ls (b ∷ bs) key first rest a e j d (inl w) =

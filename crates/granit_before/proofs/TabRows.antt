@@ -1,28 +1,26 @@
 -- Which tab is refused that begins a line, said of the lexemes before it.
 use Rattle.std.proofs.Common.{◌≡◌, ℕ, ◌≤◌, ◌<◌, false, List, [], ◌∷◌, inl, inr, refl, sym, ap, ◌∙◌}
 use Rattle.std.proofs.Common.{subst, arith}
+use Rattle.std.proofs.Math.Nat.{le_antisymm}
+use Rattle.std.proofs.lemmas.Bool.{ltb-false}
 use Rattle.std.specs.Bool.{Decides}
-use Rattle.std.specs.Prelude.{nat_lt}
-use Rattle.std.proofs.lemmas.Bool.Decides.{nat_tests}
 use Rattle.granit_base.specs.Place.{Mark}
 use Rattle.granit_error.specs.OptionsData.{OptionsData}
-use Rattle.granit_language.specs.Allowed.{InFlow, IsBehindQuestion, LeftOfNodes, LeftOfKey, InBlock}
+use Rattle.granit_language.specs.Allowed.{InFlow, LeftOfNodes, LeftOfKey, InBlock}
 use Rattle.granit_language.specs.OpenColumns.{latest, IsOpenColumn, Has, Falls, ColumnsSay}
 use Rattle.granit_language.specs.Reached.{Reached}
 use Rattle.granit_lexemes.specs.Here.{Here, start_of}
 use Rattle.granit_lexemes.specs.Lexeme.{Lexeme, Item}
-use Rattle.granit_lexemes.specs.declared.layout.LastLexeme.{LastLexeme}
-use Rattle.granit_lexemes.specs.declared.layout.LastLexeme.TheVariants.{Opener, BehindDash, BehindQuestion}
-use Rattle.granit_lexemes.specs.declared.layout.LastLexeme.TheVariants.{BehindBareColon, BehindProperty, Adjacent}
-use Rattle.granit_lexemes.specs.declared.layout.LastLexeme.TheVariants.{Another}
 use Rattle.granit_lexemes.specs.declared.layout.OpenColumn.{OpenColumn}
 use Rattle.granit_machine.specs.Laid.{Laid, is_question}
 use Rattle.granit_machine.specs.ReaderState.{ReaderState, reader_start}
+use Rattle.granit_reading.proofs.ColumnsKept.{at_most_has}
+use Rattle.granit_reading.proofs.ColumnsLaw.{cols}
 use Rattle.granit_reading.proofs.ColumnsWhole.{columns_said}
+use Rattle.granit_reading.proofs.Deciding.{question_decided}
 use Rattle.granit_before.proofs.HeldWhole.{held_said, inside_said}
 use Rattle.granit_before.proofs.QuestionSaid.{question_said}
 use Rattle.granit_before.proofs.TabsColumns.{Widths}
-use Rattle.granit_before.proofs.TabsInnermost.{columns_in, at_most}
 use Rattle.granit_before.proofs.TabsWhole.{tabs_said}
 use Rattle.granit_before.specs.Openers.{IsInside}
 use Rattle.granit_before.specs.Tabs.{BehindQuestionSign, IndentsFurther, IsWideColumn, HasColumn, InnermostOpen}
@@ -49,28 +47,22 @@ innermost_said o text items t r = (tabs_said o text items t r).innermost
 
 -- ---- the innermost column
 
-less_is : (c d : ℕ) → nat_lt c d ≡ false → d ≤ c
-less_is c d e = grind (arith, nat_tests, e)
-
-both_least : (c d : ℕ) → c ≤ d → d ≤ c → c ≡ d
-both_least c d e f = omega (arith, e, f)
-
 at_most_then : (a b c : ℕ) → a ≤ b → b ≤ c → a ≤ c
 at_most_then a b c e f = omega (arith, e, f)
 
 head_innermost : (ls : List Lexeme) (l : Laid) (c : OpenColumn) (cs : List OpenColumn) → ColumnsSay ls l →
     l.columns ≡ c ∷ cs → InnermostOpen ls c.column
 head_innermost ls l c cs said e = record {
-  open_there = said.are_open c.column (subst (Has c.column) (sym (ap columns_in e)) (inl refl));
-  innermost = λ d p. by d (subst (Has d) (ap columns_in e) (said.are_kept d p));
+  open_there = said.are_open c.column (subst (Has c.column) (sym (ap cols e)) (inl refl));
+  innermost = λ d p. by d (subst (Has d) (ap cols e) (said.are_kept d p));
 }
   where
-    falls : Falls (columns_in (c ∷ cs))
-    falls = subst Falls (ap columns_in e) said.fall
+    falls : Falls (cols (c ∷ cs))
+    falls = subst Falls (ap cols e) said.fall
 
-    by : (d : ℕ) → Has d (columns_in (c ∷ cs)) → d ≤ c.column
+    by : (d : ℕ) → Has d (cols (c ∷ cs)) → d ≤ c.column
     by d (inl q) = subst (λ d. d ≤ c.column) q (let z = c.column in omega arith)
-    by d (inr q) = less_is c.column d (at_most c.column d (columns_in cs) falls.0 q)
+    by d (inr q) = ltb-false c.column d (at_most_has c.column d (cols cs) falls.0 q)
 
 -- an open column is kept, so there is an innermost one
 head_of : (ls : List Lexeme) (l : Laid) (c : ℕ) → ColumnsSay ls l → InnermostOpen ls c →
@@ -79,10 +71,10 @@ head_of ls l c said p = on l.columns refl
   where
     on : (cs : List OpenColumn) → l.columns ≡ cs →
         (d : OpenColumn) × (ds : List OpenColumn) × (l.columns ≡ d ∷ ds) × (d.column ≡ c)
-    on [] e = absurd (subst (Has c) (ap columns_in e) (said.are_kept c p.open_there))
+    on [] e = absurd (subst (Has c) (ap cols e) (said.are_kept c p.open_there))
     on (d ∷ ds) e =
         let q = head_innermost ls l d ds said e in
-        (d, ds, e, both_least d.column c (p.innermost d.column q.open_there) (q.innermost c p.open_there))
+        (d, ds, e, (le_antisymm (p.innermost d.column q.open_there) (q.innermost c p.open_there)))
 
 module _ (o : OptionsData) (text : List ℕ) (ls : List Lexeme) (l : Laid) (said : ColumnsSay ls l)
     (inside : (InFlow l → IsInside ls) × (IsInside ls → InFlow l)) (tab : Mark) where
@@ -115,21 +107,12 @@ block_row o text items t tab r =
 
 -- ---- behind `?`
 
-question_decided : (last : LastLexeme) → Decides (is_question last) (IsBehindQuestion last)
-question_decided BehindQuestion = (λ e. inl refl, λ p. refl)
-question_decided BehindProperty = (λ e. inr refl, λ p. refl)
-question_decided Opener = (λ e. absurd cc, λ p. elim p [ inl q ↦ absurd cc | inr q ↦ absurd cc ])
-question_decided BehindDash = (λ e. absurd cc, λ p. elim p [ inl q ↦ absurd cc | inr q ↦ absurd cc ])
-question_decided BehindBareColon = (λ e. absurd cc, λ p. elim p [ inl q ↦ absurd cc | inr q ↦ absurd cc ])
-question_decided Adjacent = (λ e. absurd cc, λ p. elim p [ inl q ↦ absurd cc | inr q ↦ absurd cc ])
-question_decided Another = (λ e. absurd cc, λ p. elim p [ inl q ↦ absurd cc | inr q ↦ absurd cc ])
-
 -- a node may not stand left of an open column
 left_of_open : (ls : List Lexeme) (l : Laid) (k c : ℕ) → ColumnsSay ls l → IsOpenColumn ls c → k ≤ c → LeftOfNodes l k
 left_of_open ls l k c said p f = on l.columns refl
   where
     on : (cs : List OpenColumn) → l.columns ≡ cs → LeftOfNodes l k
-    on [] e = absurd (subst (Has c) (ap columns_in e) (said.are_kept c p))
+    on [] e = absurd (subst (Has c) (ap cols e) (said.are_kept c p))
     on (d ∷ ds) e = (d, ds, e, at_most_then k c d.column f ((head_innermost ls l d ds said e).innermost c p))
 
 key_there : (o : OptionsData) (ls : List Lexeme) (l : Laid) (tab : Mark) → ColumnsSay ls l →

@@ -1,10 +1,12 @@
 -- In each open column tabs may stand where the lexemes say so.
 use Rattle.std.proofs.Common.{◌≡◌, ℕ, ◌<◌, ◌==◌, Bool, true, false, List, [], ◌∷◌, map, Option, Some, None, ◌⊎◌}
 use Rattle.std.proofs.Common.{inl, inr, refl, sym, ap, ◌∙◌, subst, arith}
+use Rattle.std.proofs.lemmas.Bool.{eqb-true}
 use Rattle.std.specs.Bool.{Decides}
 use Rattle.std.specs.Prelude.{if◌then◌else◌, nat_lt, drop}
 use Rattle.std.proofs.lemmas.Bool.Decides.{nat_tests}
 use Rattle.granit_base.specs.Place.{Mark, first}
+use Rattle.granit_reading.proofs.ColumnsLaw.{is_below}
 use Rattle.granit_language.specs.Before.{in_front, behind_colon, behind_question_sign}
 use Rattle.granit_language.specs.OpenColumns.{EntryOf, IsEntry, Has, AtMost}
 use Rattle.granit_lexemes.specs.Here.{Here, mark_of}
@@ -21,10 +23,11 @@ use Rattle.granit_machine.specs.LexemeSort.{StrayMark, NoSign, LexemeSort, TextE
 use Rattle.granit_machine.specs.LexemeSort.{Unprintable, Placed}
 use Rattle.granit_machine.specs.PossibleKeys.{key_in, top_key}
 use Rattle.granit_reading.proofs.ColumnsKept.{KeySays, OpenSays}
+use Rattle.granit_reading.proofs.ColumnsLaw.{front_flow, cols}
 use Rattle.granit_reading.proofs.Moving.{left_open}
 use Rattle.granit_reading.proofs.Telling.{SaysOf}
-use Rattle.granit_before.proofs.TabsInnermost.{asks_kind, no_asks, no_colon, columns_in}
-use Rattle.granit_before.proofs.TabsLeft.{left_of, Styled, flow_tabs, placed_columns, outer_columns, front_flow}
+use Rattle.granit_before.proofs.TabsInnermost.{asks_kind, no_asks, no_colon}
+use Rattle.granit_before.proofs.TabsLeft.{left_of, Styled, flow_tabs, placed_columns, outer_columns}
 use Rattle.granit_before.specs.Tabs.{ends_sign, AsksFurther, IsWideColumn}
 
 -- ---- columns, each right of those around it, and whether each is wide
@@ -47,12 +50,6 @@ less_then a n k e f = grind (arith, nat_tests, e, f)
 less_on : (a n k : ℕ) → a < n → n < k → a < k
 less_on a n k e f = omega (arith, e, f)
 
-less_of : (n k : ℕ) → (n == k) ≡ false → nat_lt k n ≡ false → n < k
-less_of n k e f = grind (arith, nat_tests, e, f)
-
-same_of : (n k : ℕ) → (n == k) ≡ true → n ≡ k
-same_of n k e = grind (arith, nat_tests, e)
-
 never_below : (n : ℕ) → n < n → ⊥
 never_below n e = omega (arith, e)
 
@@ -64,7 +61,7 @@ below_more : (n k : ℕ) (cs : List OpenColumn) → n < k → Below n cs → Bel
 below_more n k [] e b = tt
 below_more n k (c ∷ cs) e b = (less_on c.column n k b.0 e, below_more n k cs e b.1)
 
-below_has : (n c : ℕ) (cs : List OpenColumn) → Below n cs → Has c (columns_in cs) → c < n
+below_has : (n c : ℕ) (cs : List OpenColumn) → Below n cs → Has c (cols cs) → c < n
 below_has n c [] b h = absurd h
 below_has n c (d ∷ ds) b (inl e) = subst (λ c. c < n) e b.0
 below_has n c (d ∷ ds) b (inr h) = below_has n c ds b.1 h
@@ -85,7 +82,7 @@ pop_each n k (c ∷ cs) b = on (nat_lt k c.column) (pop_each n k cs b.1)
     on true more = more
     on false more = b
 
-at_most_each : (n : ℕ) (cs : List OpenColumn) → AtMost n (columns_in cs) → AtEach n cs
+at_most_each : (n : ℕ) (cs : List OpenColumn) → AtMost n (cols cs) → AtEach n cs
 at_most_each n [] p = tt
 at_most_each n (c ∷ cs) p = (p.0, at_most_each n cs p.1)
 
@@ -121,8 +118,8 @@ module _ (text : List ℕ) (ls : List Lexeme) where
   around_below k (c ∷ cs) w a = on (c.column == k) refl
     where
       on : (v : Bool) → (c.column == k) ≡ v → Below k (if v then cs else c ∷ cs)
-      on true e = subst (λ n. Below n cs) (same_of c.column k e) w.1
-      on false e = let f = less_of c.column k e a.0 in (f, below_more c.column k cs f w.1)
+      on true e = subst (λ n. Below n cs) (eqb-true c.column k e) w.1
+      on false e = let f = is_below c.column k e a.0 in (f, below_more c.column k cs f w.1)
 
   around_widths : (k : ℕ) (cs : List OpenColumn) → Widths text ls cs → Widths text ls (around k cs)
   around_widths k [] w = tt
@@ -138,7 +135,7 @@ module _ (text : List ℕ) (ls : List Lexeme) where
 
     -- a lexeme that says nothing of these columns
     keep_widths : (cs : List OpenColumn) → (Widens → ⊥) →
-        ((c : ℕ) → Has c (columns_in cs) → IsEntry x ls c → ⊥) → Widths text ls cs → Widths text (x ∷ ls) cs
+        ((c : ℕ) → Has c (cols cs) → IsEntry x ls c → ⊥) → Widths text ls cs → Widths text (x ∷ ls) cs
     keep_widths [] n none w = tt
     keep_widths (c ∷ cs) n none w = (
       (
@@ -228,7 +225,7 @@ module _ (text : List ℕ) (ls : List Lexeme) (l : Laid) (said : OpenSays ls l) 
     no_flow : (sort : LexemeSort) → (front sort).brackets ≡ [] → ⊥
     no_flow sort e = let z = sym (ap is_nonempty e) ∙ (front_flow sort h l ∙ inside) in cc
 
-    no_entries : (c : ℕ) → Has c (columns_in l.columns) → IsEntry x ls c → ⊥
+    no_entries : (c : ℕ) → Has c (cols l.columns) → IsEntry x ls c → ⊥
     no_entries c h e = let z = sym e.0 ∙ (flow ∙ inside) in cc
 
     keeps : (sort : LexemeSort) (cs : List OpenColumn) → cs ≡ (front sort).columns → (Widens text ls x → ⊥) → Goal cs

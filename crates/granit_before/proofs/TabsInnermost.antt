@@ -1,12 +1,15 @@
 -- In the innermost column a tab may stand where the lexemes say so.
-use Rattle.std.proofs.Common.{◌≡◌, ℕ, ◌<◌, Bool, true, false, ◌&&◌, ◌||◌, not, List, [], ◌∷◌, map}
+use Rattle.std.proofs.Common.{◌≡◌, ℕ, ◌<◌, Bool, true, false, ◌&&◌, ◌||◌, not, List, [], ◌∷◌}
 use Rattle.std.proofs.Common.{◌⊎◌, inl, inr, refl, sym, ap, ◌∙◌, subst, arith}
+use Rattle.std.proofs.Math.Bool.{or-false}
+use Rattle.std.proofs.Math.Nat.{le_refl}
+use Rattle.std.proofs.lemmas.Bool.{le-ltb}
 use Rattle.std.specs.Bool.{Decides}
 use Rattle.std.specs.Prelude.{if◌then◌else◌, nat_lt, nat_le, drop}
 use Rattle.std.proofs.lemmas.Bool.Decides.{nat_tests, Decides-at}
 use Rattle.granit_base.specs.Place.{Mark, first}
 use Rattle.granit_language.specs.Before.{in_front}
-use Rattle.granit_language.specs.OpenColumns.{is_outer_kind, IsOpenColumn, LeavesOpen, Has, AtMost, Falls}
+use Rattle.granit_language.specs.OpenColumns.{is_outer_kind, IsOpenColumn, LeavesOpen, Has, Falls}
 use Rattle.granit_language.specs.OpenColumns.{ColumnsSay}
 use Rattle.granit_lexemes.specs.Here.{Here, mark_of}
 use Rattle.granit_lexemes.specs.LayoutData.{is_left}
@@ -20,31 +23,22 @@ use Rattle.granit_machine.specs.LexemeSort.{ColonSign, AliasSign, AnchorSign, Ta
 use Rattle.granit_machine.specs.LexemeSort.{StrayMark, NoSign, LexemeSort, TextEnd, StartMark, EndMark, DirectiveSign}
 use Rattle.granit_machine.specs.LexemeSort.{Unprintable, Placed}
 use Rattle.granit_machine.specs.PossibleKeys.{top_key}
+use Rattle.granit_reading.proofs.ColumnsKept.{at_most_has}
+use Rattle.granit_reading.proofs.ColumnsLaw.{front_flow, cols}
 use Rattle.granit_reading.proofs.Telling.{SaysOf}
 use Rattle.granit_before.proofs.TabsLeft.{left_of, Styled, flow_tabs, placed_columns, placed_rolled, outer_rolled}
-use Rattle.granit_before.proofs.TabsLeft.{front_flow, question_rolled, colon_rolled}
+use Rattle.granit_before.proofs.TabsLeft.{question_rolled, colon_rolled}
 use Rattle.granit_before.specs.Tabs.{ends_sign, AsksFurther, keeps_in_flow}
 use Rattle.granit_before.specs.Tabs.{keeps_outside, RightOfColumns, StillSo, in_flow, outside, at_end, IndentsFurther}
 use Rattle.granit_before.specs.Tabs.{behind_sign, behind_opener, still_so}
 
-abbrev pub columns_in : List OpenColumn → List ℕ
-columns_in cs = map (λ (x : OpenColumn). x.column) cs
-
 -- ---- columns that are open
-
-pub at_most : (a c : ℕ) (ns : List ℕ) → AtMost a ns → Has c ns → nat_lt a c ≡ false
-at_most a c [] p h = absurd h
-at_most a c (n ∷ ns) p (inl e) = subst (λ c. nat_lt a c ≡ false) e p.0
-at_most a c (n ∷ ns) p (inr h) = at_most a c ns p.1 h
 
 below_right : (d c k : ℕ) → not (nat_le k d) ≡ true → nat_lt d c ≡ false → c < k
 below_right d c k e f = grind (arith, nat_tests, e, f)
 
 right_below : (d k : ℕ) → d < k → not (nat_le k d) ≡ true
 right_below d k e = grind (arith, nat_tests, e)
-
-never_less : (d : ℕ) → nat_lt d d ≡ false
-never_less d = grind (arith, nat_tests)
 
 -- whether a lexeme stands right of the innermost column decides whether it does of each
 right_decided :
@@ -54,41 +48,41 @@ right_decided ls l x k said at = on l.columns refl
   where
     on : (cs : List OpenColumn) → l.columns ≡ cs →
         Decides (not (is_left (innermost_column cs) k)) (RightOfColumns ls x)
-    on [] e = (λ f c p. absurd (subst (Has c) (ap columns_in e) (said.are_kept c p)), λ p. refl)
+    on [] e = (λ f c p. absurd (subst (Has c) (ap cols e) (said.are_kept c p)), λ p. refl)
     on (d ∷ ds) e = (
       λ f c p. subst (λ k. c < k) (sym at)
-          (below_right d.column c k f (by c (subst (Has c) (ap columns_in e) (said.are_kept c p)))),
+          (below_right d.column c k f (by c (subst (Has c) (ap cols e) (said.are_kept c p)))),
       λ p. right_below d.column k
           (subst (λ k. d.column < k) at (p d.column (said.are_open d.column
-          (subst (Has d.column) (sym (ap columns_in e)) (inl refl))))),
+          (subst (Has d.column) (sym (ap cols e)) (inl refl))))),
     )
       where
-        falls : Falls (columns_in (d ∷ ds))
-        falls = subst Falls (ap columns_in e) said.fall
+        falls : Falls (cols (d ∷ ds))
+        falls = subst Falls (ap cols e) said.fall
 
-        by : (c : ℕ) → Has c (columns_in (d ∷ ds)) → nat_lt d.column c ≡ false
-        by c (inl q) = subst (λ c. nat_lt d.column c ≡ false) q (never_less d.column)
-        by c (inr q) = at_most d.column c (columns_in ds) falls.0 q
+        by : (c : ℕ) → Has c (cols (d ∷ ds)) → nat_lt d.column c ≡ false
+        by c (inl q) = subst (λ c. nat_lt d.column c ≡ false) q (le-ltb d.column d.column (le_refl d.column))
+        by c (inr q) = at_most_has d.column c (cols ds) falls.0 q
 
 kept_some : (k : ℕ) (cs : List OpenColumn) → is_nonempty (up_to_column k cs) ≡ true →
-    (c : ℕ) × Has c (columns_in cs) × (nat_lt k c ≡ false)
+    (c : ℕ) × Has c (cols cs) × (nat_lt k c ≡ false)
 kept_some k [] e = absurd cc
 kept_some k (c ∷ cs) e = on (nat_lt k c.column) refl (λ e. kept_some k cs e) e
   where
     on : (v : Bool) → nat_lt k c.column ≡ v →
-        (is_nonempty (up_to_column k cs) ≡ true → (d : ℕ) × Has d (columns_in cs) × (nat_lt k d ≡ false)) →
+        (is_nonempty (up_to_column k cs) ≡ true → (d : ℕ) × Has d (cols cs) × (nat_lt k d ≡ false)) →
         is_nonempty (chosen_columns v (up_to_column k cs) (c ∷ cs)) ≡ true →
-        (d : ℕ) × Has d (columns_in (c ∷ cs)) × (nat_lt k d ≡ false)
+        (d : ℕ) × Has d (cols (c ∷ cs)) × (nat_lt k d ≡ false)
     on true f more e = let r = more e in (r.0, inr r.1, r.2)
     on false f more e = (c.column, inl refl, f)
 
-some_kept : (k c : ℕ) (cs : List OpenColumn) → Has c (columns_in cs) → nat_lt k c ≡ false →
+some_kept : (k c : ℕ) (cs : List OpenColumn) → Has c (cols cs) → nat_lt k c ≡ false →
     is_nonempty (up_to_column k cs) ≡ true
 some_kept k c [] h f = absurd h
 some_kept k c (d ∷ ds) h f = on (nat_lt k d.column) refl (λ h. some_kept k c ds h f) h
   where
     on : (v : Bool) → nat_lt k d.column ≡ v →
-        (Has c (columns_in ds) → is_nonempty (up_to_column k ds) ≡ true) → Has c (columns_in (d ∷ ds)) →
+        (Has c (cols ds) → is_nonempty (up_to_column k ds) ≡ true) → Has c (cols (d ∷ ds)) →
         is_nonempty (chosen_columns v (up_to_column k ds) (d ∷ ds)) ≡ true
     on true g more (inl e) = absurd (let z = sym g ∙ (ap (λ c. nat_lt k c) e ∙ f) in cc)
     on true g more (inr e) = more e
@@ -199,10 +193,6 @@ module _ (text : List ℕ) (ls : List Lexeme) (x : Lexeme) where
 
 -- ---- one lexeme
 
-or_false : (b : Bool) → (b || false) ≡ b
-or_false true = refl
-or_false false = refl
-
 nonempty_flow : (l : Laid) → l.brackets ≡ [] → is_in_flow l ≡ false
 nonempty_flow l e = ap is_nonempty e
 
@@ -263,7 +253,7 @@ module _ (text : List ℕ) (ls : List Lexeme) (l : Laid) (said : ColumnsSay ls l
         let m = front (Placed (OpenSign bracket)) in
         passing (Placed (OpenSign bracket)) _
         (ap (λ v. m.rolled || (not v && is_nonempty m.columns)) (front_flow (Placed (OpenSign bracket)) h l ∙ inside)
-        ∙ or_false m.rolled) s.is refl (no_asks text x s.is refl)
+        ∙ or-false m.rolled) s.is refl (no_asks text x s.is refl)
     flow_step (Placed (CloseSign bracket)) s t =
         passing (Placed (CloseSign bracket)) _ refl s.0.is refl (no_asks text x s.0.is refl)
     flow_step (Placed CommaSign) s t = passing (Placed CommaSign) _ refl s.is refl (no_asks text x s.is refl)

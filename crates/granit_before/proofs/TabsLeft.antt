@@ -1,6 +1,7 @@
 -- What a lexeme leaves of the open columns, and of what is kept of tabs.
 use Rattle.std.proofs.Common.{◌≡◌, Bool, true, false, ◌&&◌, ◌||◌, not, List, [], ◌∷◌, Option, Some, None, refl, sym, ap}
 use Rattle.std.proofs.Common.{◌∙◌}
+use Rattle.std.proofs.Math.Bool.{and-false, and-true}
 use Rattle.std.specs.Prelude.{if◌then◌else◌}
 use Rattle.granit_base.specs.Written.{Written}
 use Rattle.granit_base.specs.declared.style.ScalarStyle.TheVariants.{Plain}
@@ -14,10 +15,9 @@ use Rattle.granit_lexemes.specs.LayoutData.{is_left}
 use Rattle.granit_lexemes.specs.Lexeme.{Scalar, Lexeme, Item, OfLexeme}
 use Rattle.granit_lexemes.specs.QuotedScalar.{quoted_style}
 use Rattle.granit_lexemes.specs.declared.layout.LastLexeme.{LastLexeme}
-use Rattle.granit_lexemes.specs.declared.layout.OpenBracket.{OpenBracket}
 use Rattle.granit_lexemes.specs.declared.layout.PossibleKey.{PossibleKey}
 use Rattle.granit_machine.specs.Columns.{up_to_column}
-use Rattle.granit_machine.specs.Laid.{Laid, behind_lexeme, is_nonempty, is_in_flow, block_column}
+use Rattle.granit_machine.specs.Laid.{Laid, behind_lexeme, is_in_flow, block_column}
 use Rattle.granit_machine.specs.LexemeSort.{PlacedSort, OpenSign, CloseSign, CommaSign, DashSign, QuestionSign}
 use Rattle.granit_machine.specs.LexemeSort.{ColonSign, AliasSign, AnchorSign, TagSign, BlockSign, QuoteSign, PlainSign}
 use Rattle.granit_machine.specs.LexemeSort.{StrayMark, NoSign, LexemeSort, TextEnd, StartMark, EndMark, DirectiveSign}
@@ -25,8 +25,9 @@ use Rattle.granit_machine.specs.LexemeSort.{Unprintable, Placed}
 use Rattle.granit_machine.specs.PossibleKeys.{forgets_key}
 use Rattle.granit_machine.specs.ReaderState.{ReaderState}
 use Rattle.granit_machine.specs.StreamLexemes.{behind_end}
-use Rattle.granit_reading.proofs.ColumnsLaw.{closed_brackets}
-use Rattle.granit_reading.proofs.ReadingLaw.{run_flow}
+
+pub same_head : {x y : Lexeme} {xs ys : List Item} → ◌≡◌ {A = List Item} (OfLexeme x ∷ xs) (OfLexeme y ∷ ys) → x ≡ y
+same_head e = cc (e)
 
 -- ---- what is left
 
@@ -93,22 +94,18 @@ Styled (Placed PlainSign) g x = (text : Written) × (x.kind ≡ Scalar Plain tex
 Styled (Placed DashSign) g x = x.end ≡ mark_of g
 Styled sort g x = Unit {0}
 
--- the lexeme of a read is the first of its items
-head_is : {x y : Lexeme} {xs ys : List Item} → ◌≡◌ {A = List Item} (OfLexeme x ∷ xs) (OfLexeme y ∷ ys) → x ≡ y
-head_is e = cc (e)
-
 pub styled :
     (o : OptionsData) (ends : Bool) (sort : LexemeSort) (h : Here) (l : Laid) (items : List Item)
     (after : ReaderState) (x : Lexeme) (notes : List Item) → items ≡ OfLexeme x ∷ notes →
     Given o ends sort h l items after → Styled sort after.here x
 styled o ends (Placed (QuoteSign single)) h l items after x notes e p =
-    (p.read.text, sym (ap (λ (x : Lexeme). x.kind) (head_is (sym p.gives ∙ e))))
+    (p.read.text, sym (ap (λ (x : Lexeme). x.kind) (same_head (sym p.gives ∙ e))))
 styled o ends (Placed (BlockSign literal)) h l (OfLexeme y ∷ []) after x notes e p =
-    (p.0.given.read.text, sym (ap (λ (x : Lexeme). x.kind) (head_is e)) ∙ ap (λ (x : Lexeme). x.kind) p.0.is)
+    (p.0.given.read.text, sym (ap (λ (x : Lexeme). x.kind) (same_head e)) ∙ ap (λ (x : Lexeme). x.kind) p.0.is)
 styled o ends (Placed PlainSign) h l (OfLexeme y ∷ []) after x notes e p =
-    (p.1.read.text, sym (ap (λ (x : Lexeme). x.kind) (head_is e)) ∙ ap (λ (x : Lexeme). x.kind) p.1.is)
+    (p.1.read.text, sym (ap (λ (x : Lexeme). x.kind) (same_head e)) ∙ ap (λ (x : Lexeme). x.kind) p.1.is)
 styled o ends (Placed DashSign) h l (OfLexeme y ∷ []) after x notes e p =
-    sym (ap (λ (x : Lexeme). x.end) (head_is e)) ∙ ap (λ (x : Lexeme). x.end) p.0.is
+    sym (ap (λ (x : Lexeme). x.end) (same_head e)) ∙ ap (λ (x : Lexeme). x.end) p.0.is
 styled o ends (Placed (BlockSign literal)) h l items after x notes e p = absurd p
 styled o ends (Placed PlainSign) h l items after x notes e p = absurd p
 styled o ends (Placed DashSign) h l items after x notes e p = absurd p
@@ -141,23 +138,6 @@ run_tabs (Placed PlainSign) h l = record { columns = refl; rolled = refl }
 run_tabs (Placed sort) h l = record { columns = refl; rolled = refl }
 run_tabs sort h l = record { columns = refl; rolled = refl }
 
-run_in_flow : (sort : LexemeSort) (h : Here) (l : Laid) → is_in_flow (run_for sort h l) ≡ is_in_flow l
-run_in_flow (Placed sort) h l = run_flow sort h l
-run_in_flow sort h l = refl
-
-pub front_flow : (sort : LexemeSort) (h : Here) (l : Laid) → is_in_flow (in_front sort h l) ≡ is_in_flow l
-front_flow sort h l =
-    run_in_flow sort h (closed_for sort h l)
-    ∙ ap (λ (bs : List OpenBracket). is_nonempty bs) (closed_brackets sort h l)
-
-and_true : (b : Bool) → (b && true) ≡ b
-and_true true = refl
-and_true false = refl
-
-and_false : (b : Bool) → (b && false) ≡ false
-and_false true = refl
-and_false false = refl
-
 -- in flow nothing ends
 pub flow_tabs : (sort : LexemeSort) (h : Here) (l : Laid) → is_in_flow l ≡ true → SameTabs (in_front sort h l) l
 flow_tabs sort h l e = record { columns = r.columns ∙ columns sort; rolled = r.rolled ∙ rolled sort }
@@ -176,11 +156,11 @@ flow_tabs sort h l e = record { columns = r.columns ∙ columns sort; rolled = r
     rolled : (sort : LexemeSort) → (closed_for sort h l).rolled ≡ l.rolled
     rolled TextEnd = refl
     rolled Unprintable = refl
-    rolled StartMark = ap (λ v. l.rolled && v) e ∙ and_true l.rolled
-    rolled EndMark = ap (λ v. l.rolled && v) e ∙ and_true l.rolled
-    rolled DirectiveSign = ap (λ v. l.rolled && v) e ∙ and_true l.rolled
+    rolled StartMark = ap (λ v. l.rolled && v) e ∙ and-true l.rolled
+    rolled EndMark = ap (λ v. l.rolled && v) e ∙ and-true l.rolled
+    rolled DirectiveSign = ap (λ v. l.rolled && v) e ∙ and-true l.rolled
     rolled (Placed sort) =
-        ap (λ v. l.rolled && (v || not (is_left (block_column l) h.place.column))) e ∙ and_true l.rolled
+        ap (λ v. l.rolled && (v || not (is_left (block_column l) h.place.column))) e ∙ and-true l.rolled
 
 -- outside flow what a lexeme in a column ends
 pub placed_columns : (sort : PlacedSort) (h : Here) (l : Laid) → is_in_flow l ≡ false →
@@ -210,9 +190,9 @@ outer_columns sort h l s e = absurd s
 
 pub outer_rolled : (sort : LexemeSort) (h : Here) (l : Laid) → EndsAll sort → is_in_flow l ≡ false →
     (in_front sort h l).rolled ≡ false
-outer_rolled StartMark h l s e = ap (λ v. l.rolled && v) e ∙ and_false l.rolled
-outer_rolled EndMark h l s e = ap (λ v. l.rolled && v) e ∙ and_false l.rolled
-outer_rolled DirectiveSign h l s e = ap (λ v. l.rolled && v) e ∙ and_false l.rolled
+outer_rolled StartMark h l s e = ap (λ v. l.rolled && v) e ∙ and-false l.rolled
+outer_rolled EndMark h l s e = ap (λ v. l.rolled && v) e ∙ and-false l.rolled
+outer_rolled DirectiveSign h l s e = ap (λ v. l.rolled && v) e ∙ and-false l.rolled
 outer_rolled sort h l s e = absurd s
 
 -- ---- `?` and `:`

@@ -13,6 +13,7 @@ use Rattle.granit_lexemes.specs.Lexeme.{Lexeme, Item}
 use Rattle.granit_machine.specs.Laid.{Laid}
 use Rattle.granit_machine.specs.ReaderState.{ReaderState, reader_start}
 use Rattle.granit_reading.proofs.ColumnsKept.{OpenSays}
+use Rattle.granit_reading.proofs.ColumnsLaw.{front_flow}
 use Rattle.granit_reading.proofs.ColumnsWhole.{agrees_said, fresh_said, reads_said, latest_noted, latest_joined}
 use Rattle.granit_reading.proofs.Counting.{At, start_at}
 use Rattle.granit_reading.proofs.PlacesLaw.{gap_passes, given_places}
@@ -20,7 +21,7 @@ use Rattle.granit_reading.proofs.Telling.{gap_agrees, telling}
 use Rattle.granit_machine.specs.NodeLexemes.{note_items}
 use Rattle.granit_before.proofs.TabsColumns.{Widths, columns_step}
 use Rattle.granit_before.proofs.TabsInnermost.{rolled_step}
-use Rattle.granit_before.proofs.TabsLeft.{SameTabs, gap_tabs, left_tabs, styled, front_flow}
+use Rattle.granit_before.proofs.TabsLeft.{SameTabs, gap_tabs, left_tabs, styled}
 use Rattle.granit_before.specs.Tabs.{IndentsFurther, behind_sign, behind_opener, still_so}
 
 pub record TabsSay (text : List ℕ) (ls : List Lexeme) (l : Laid) : Type 0 where

@@ -1,6 +1,7 @@
 -- Behind which items a value may stand at once.
 use Rattle.std.proofs.Common.{◌≡◌, ◌&&◌, Bool, true, false, List, [], ◌∷◌, ◌++◌, Option, Some, None, refl, sym, ap, ◌∙◌}
 use Rattle.std.specs.Prelude.{if◌then◌else◌}
+use Rattle.granit_answers.proofs.KeysMoved.{clash}
 use Rattle.granit_base.specs.Written.{Written}
 use Rattle.granit_error.specs.OptionsData.{OptionsData}
 use Rattle.granit_language.specs.Before.{freshened, in_front, last_of_colon}
@@ -29,7 +30,8 @@ use Rattle.granit_machine.specs.NodeLexemes.{note_items, adjacent_unless}
 use Rattle.granit_machine.specs.PossibleKeys.{top_key}
 use Rattle.granit_machine.specs.Reader.{is_end_kind, is_end}
 use Rattle.granit_machine.specs.ReaderState.{ReaderState, reader_start, behind_tail}
-use Rattle.granit_reading.proofs.ColumnsWhole.{latest_noted, latest_joined}
+use Rattle.granit_reading.proofs.ColumnsWhole.{latest_joined}
+use Rattle.granit_reading.proofs.HeldLaw.{read_ends}
 use Rattle.granit_reading.proofs.Telling.{telling}
 use Rattle.granit_before.specs.Touching.{is_touching, ends_touching}
 
@@ -156,15 +158,6 @@ read_forgets o (of_lexeme {items = items} at behind sort comes given keys) v =
     let t = telling o (ends_column_by sort f) f.here _ sort items behind given.1 in
     ap (ends_touching v) t.are ∙ sym (ap (ends_touching false) t.are)
 
-read_ends : (o : OptionsData) (ls : List Lexeme) {s after : ReaderState} {items : List Item} → Reads o s items after →
-    is_end items ≡ true → has_ended (latest items ls) ≡ true
-read_ends o ls (of_comment at g k) e = absurd cc
-read_ends o ls (of_lexeme {items = items} at behind sort comes given keys) e =
-    let f = freshened o at in
-    let t = telling o (ends_column_by sort f) f.here _ sort items behind given.1 in
-    ap has_ended (ap (λ (is : List Item). latest is ls) t.are ∙ latest_noted t.lexeme t.note ls)
-    ∙ (sym (ap is_end t.are) ∙ e)
-
 -- ---- all
 
 joined_touching : (v : Bool) (items more : List Item) →
@@ -172,9 +165,6 @@ joined_touching : (v : Bool) (items more : List Item) →
 joined_touching v [] more = refl
 joined_touching v (OfLexeme x ∷ is) more = joined_touching (is_touching x.kind x.tail) is more
 joined_touching v (OfComment c ∷ is) more = joined_touching false is more
-
-never_both : {A : Type 0} (v : Bool) → v ≡ true → v ≡ false → A
-never_both v e f = absurd cc
 
 reached_touches : (o : OptionsData) (ls : List Lexeme) (v : Bool) {s t : ReaderState} {items : List Item} →
     Reached o s items t → is_adjacent s.laid.last ≡ v → has_ended (latest items ls) ≡ false →
@@ -194,7 +184,7 @@ reached_touches o ls v {t = t} {items = all} (goes_on next items more r last res
         is_adjacent t.laid.last ≡ ends_touching (ends_touching v items) more
     on false f go = go f
     on true f go =
-        never_both (has_ended (latest items ls)) (read_ends o ls r f)
+        clash (has_ended (latest items ls)) (read_ends o ls r f)
         (sym (ap (λ (more : List Item). has_ended (latest more (latest items ls))) (last f))
         ∙ (sym (ap has_ended same) ∙ n))
 

@@ -1,10 +1,11 @@
 -- What decides the worked examples.
 use Rattle.std.proofs.Common.{◌≡◌, ℕ, zero, suc, ◌==◌, ◌&&◌, ◌||◌, Bool, true, false, List, [], ◌∷◌, ◌++◌, Option, Some}
 use Rattle.std.proofs.Common.{None}
-use Rattle.std.proofs.Common.{Result, Ok, Err, refl, sym, ap, ◌∙◌, subst, arith}
+use Rattle.std.proofs.Common.{Result, Ok, Err, refl, sym, ap, ◌∙◌, subst}
+use Rattle.std.proofs.lemmas.Bool.{eqb-true, eq-eqb}
 use Rattle.std.specs.Bool.{Decides}
 use Rattle.std.specs.Prelude.{nat_lt}
-use Rattle.std.proofs.lemmas.Bool.Decides.{Decides-like, nat_tests}
+use Rattle.std.proofs.lemmas.Bool.Decides.{Decides-like}
 use Rattle.std.proofs.lemmas.List.{append-nil}
 use Rattle.granit_base.specs.Place.{Mark}
 use Rattle.granit_error.specs.OptionsData.{default_options}
@@ -139,12 +140,6 @@ abbrev pub stands_at : Option Mark → ℕ → Bool
 stands_at None index = false
 stands_at (Some m) index = m.place.index == index
 
-same_index : (a b : ℕ) → (a == b) ≡ true → a ≡ b
-same_index a b e = grind (arith, nat_tests, e)
-
-index_same : (a b : ℕ) → a ≡ b → (a == b) ≡ true
-index_same a b e = grind (arith, nat_tests, e)
-
 abbrev pub is_cut_at : List ℕ → (reads index : ℕ) → Bool
 is_cut_at text n index = stands_at (first_reads n text).1.laid.cut index
 
@@ -156,11 +151,11 @@ cut_decided text n index e = (there (first_reads n text).1.laid.cut refl, back)
         CutAt text n index
     there None f y = absurd cc
     there (Some m) f y =
-        subst (CutAt text n) (same_index m.place.index index y)
+        subst (CutAt text n) (eqb-true m.place.index index y)
         (cut_said default_options text (first_reads n text).0 (first_reads n text).1 m (first_reach n text) e f)
 
     back : CutAt text n index → is_cut_at text n index ≡ true
     back c =
         let r = first_reach n text in
         let q = cut_held default_options text (first_reads n text).0 (first_reads n text).1 index r e c in
-        ap (λ (cut : Option Mark). stands_at cut index) q.1 ∙ index_same q.0.place.index index q.2
+        ap (λ (cut : Option Mark). stands_at cut index) q.1 ∙ eq-eqb q.0.place.index index q.2

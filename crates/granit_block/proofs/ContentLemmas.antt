@@ -7,7 +7,7 @@ use Rattle.std.proofs.lemmas.Bool.Decides.{nat_tests}
 use Rattle.granit_base.specs.Classes.{is_break}
 use Rattle.granit_base.specs.Place.{Mark}
 use Rattle.granit_base.specs.Written.{string_chars}
-use Rattle.granit_error.specs.FaultKind.{UnexpectedCharacter, TabAtBlockScalarStart}
+use Rattle.granit_error.specs.FaultKind.{TabAtBlockScalarStart}
 use Rattle.granit_error.specs.Refused.{Refused}
 use Rattle.granit_lexemes.specs.Basics.{owned, unprintable}
 use Rattle.granit_lexemes.specs.BlockHeader.{BlockHeader, Chomping, Strip, Clip, Keep, chomping_of, content_column}
@@ -157,13 +157,6 @@ content_at literal chomping broken block column start k h {clear} {met} c m b =
     content_lines_is literal chomping broken block column start k h
     ∙ ap₂ (λ (x y : Bool). content_on literal chomping broken column start k h x y (is_between block column h)) c m
     ∙ ap (content_on literal chomping broken column start k h clear met) b
-
-pub lines_strange : (literal : Bool) (header : BlockHeader) (broken : Bool) (block : Option ℕ) (start : Mark) (h : Here)
-    → is_clear h ≡ false
-    → block_lines literal header broken block start h ≡ Err (fault_at (UnexpectedCharacter (next_char h)) (mark_of h))
-lines_strange literal header broken block start h c =
-    block_lines_is literal header broken block start h
-    ∙ ap (λ (b : Bool). lines_on literal header broken block start h b (next_char h == 0x09)) c
 
 pub lines_tab : (literal : Bool) (header : BlockHeader) (broken : Bool) (block : Option ℕ) (start : Mark) (h : Here)
     → is_clear h ≡ true → (next_char h == 0x09) ≡ true

@@ -7,8 +7,9 @@ use Rattle.granit_lexemes.specs.Comment.{CommentRead}
 use Rattle.granit_lexemes.specs.Here.{Here, next_char, mark_of, past}
 use Rattle.granit_lexemes.specs.LayoutData.{LayoutData}
 use Rattle.granit_lexemes.specs.Outcome.{Fault, fault_at, ◌>>=◌}
-use Rattle.granit_blocks.proofs.BlockHeads.{tail_on, tail_at_is, with_noted}
+use Rattle.granit_blocks.proofs.BlockHeads.{tail_on, tail_at_is}
 use Rattle.granit_cursor.specs.declared.token.Token.{Token}
+use Rattle.granit_scalars.proofs.Comments.{with_note}
 use Rattle.granit_block.specs.BlockCode.{asked_note, note_at, noted_tail}
 use Rattle.granit_block.proofs.LineLemmas.{run_count}
 
@@ -30,7 +31,7 @@ module _ (at : LayoutData) (n : ℕ) (h : Here) (is : n ≡ run_length (starts i
   note_touches y e = by_tests true true y e
 
   note_of : (r : Result (CommentRead × Here) Fault)
-      → noted_on at (with_noted r) ≡ (r >>= λ x. Ok (asked_note at (Some x.0), x.1))
+      → noted_on at (with_note r) ≡ (r >>= λ x. Ok (asked_note at (Some x.0), x.1))
   note_of (Ok x) = refl
   note_of (Err f) = refl
 

@@ -3,26 +3,27 @@ use Rattle.std.proofs.Common.{Bool, List, [], ap, arith, false, inl, inr, length
 use Rattle.std.proofs.Common.{ℕ, ◌<◌, ◌==◌, ◌∙◌, ◌∷◌, ◌≡◌, ◌≤◌, ◌⊎◌}
 use Rattle.std.proofs.lemmas.Bool.Decides.{nat_tests}
 use Rattle.std.specs.Prelude.{if◌then◌else◌, nat_lt}
-use Rattle.granit_block_layout.proofs.Ready.{Around, bound, columns_of, outside, up_to}
+use Rattle.granit_block_layout.proofs.Ready.{Around, bound, outside, up_to}
 use Rattle.granit_lexemes.specs.declared.layout.OpenBracket.{OpenBracket}
 use Rattle.granit_lexemes.specs.declared.layout.OpenColumn.{OpenColumn}
 use Rattle.granit_machine.specs.Columns.{chosen_columns, entered_columns, up_to_column, widened}
 use Rattle.granit_machine.specs.Laid.{is_nonempty}
+use Rattle.granit_reading.proofs.ColumnsLaw.{cols}
 
-up_if : (v : Bool) (c : OpenColumn) (xs cs : List OpenColumn) (ns : List ℕ) → columns_of xs ≡ ns
-    → columns_of (chosen_columns v xs (c ∷ cs)) ≡ (if v then ns else c.column ∷ columns_of cs)
+up_if : (v : Bool) (c : OpenColumn) (xs cs : List OpenColumn) (ns : List ℕ) → cols xs ≡ ns
+    → cols (chosen_columns v xs (c ∷ cs)) ≡ (if v then ns else c.column ∷ cols cs)
 up_if true c xs cs ns e = e
 up_if false c xs cs ns e = refl
 
-pub up_map : (n : ℕ) (cs : List OpenColumn) → columns_of (up_to_column n cs) ≡ up_to n (columns_of cs)
+pub up_map : (n : ℕ) (cs : List OpenColumn) → cols (up_to_column n cs) ≡ up_to n (cols cs)
 up_map n [] = refl
-up_map n (c ∷ cs) = up_if (nat_lt n c.column) c (up_to_column n cs) cs (up_to n (columns_of cs)) (up_map n cs)
+up_map n (c ∷ cs) = up_if (nat_lt n c.column) c (up_to_column n cs) cs (up_to n (cols cs)) (up_map n cs)
 
-pub widened_map : (cs : List OpenColumn) → columns_of (map widened cs) ≡ columns_of cs
+pub widened_map : (cs : List OpenColumn) → cols (map widened cs) ≡ cols cs
 widened_map [] = refl
 widened_map (c ∷ cs) = ap (λ (ns : List ℕ). c.column ∷ ns) (widened_map cs)
 
-columns_length : (cs : List OpenColumn) → length (columns_of cs) ≡ length cs
+columns_length : (cs : List OpenColumn) → length (cols cs) ≡ length cs
 columns_length [] = refl
 columns_length (c ∷ cs) = ap suc (columns_length cs)
 
@@ -42,7 +43,7 @@ up_less n c cs h =
 
 -- what a lexeme in a column leaves open
 pub closed_map : (n : ℕ) (obs : List OpenBracket) (cs : List OpenColumn) (ds : List ℕ) → Around [] obs
-    → columns_of cs ≡ ds → columns_of (if is_nonempty obs then cs else up_to_column n cs) ≡ up_to n ds
+    → cols cs ≡ ds → cols (if is_nonempty obs then cs else up_to_column n cs) ≡ up_to n ds
 closed_map n _ cs ds outside e = up_map n cs ∙ ap (up_to n) e
 
 -- An entry begins in a column: one more of the innermost collection, or the first of one, which may be opened.
@@ -50,27 +51,27 @@ pub data Enters (limit c : ℕ) (ds : List ℕ) : List ℕ → Type 0 where
   again : {cs : List ℕ} → up_to c ds ≡ c ∷ cs → Enters limit c ds cs
   anew : {cs : List ℕ} → up_to c ds ≡ cs → bound cs ≤ c → length cs < limit → Enters limit c ds cs
 
-entered_again : (c : ℕ) (cs : List OpenColumn) (ns : List ℕ) → columns_of cs ≡ c ∷ ns
-    → columns_of (entered_columns c cs) ≡ c ∷ ns
+entered_again : (c : ℕ) (cs : List OpenColumn) (ns : List ℕ) → cols cs ≡ c ∷ ns
+    → cols (entered_columns c cs) ≡ c ∷ ns
 unfolding entered_columns
 entered_again c [] ns e = absurd cc
 entered_again c (k ∷ ks) ns e =
     let same : k.column ≡ c = cc in
-    let rest : columns_of ks ≡ ns = cc in
+    let rest : cols ks ≡ ns = cc in
     let test : (k.column == c) ≡ true = grind (arith, nat_tests) in
-    ap (λ v. c ∷ columns_of (if v then ks else k ∷ ks)) test ∙ ap (λ (ns : List ℕ). c ∷ ns) rest
+    ap (λ v. c ∷ cols (if v then ks else k ∷ ks)) test ∙ ap (λ (ns : List ℕ). c ∷ ns) rest
 
-entered_anew : (c : ℕ) (cs : List OpenColumn) (ns : List ℕ) → columns_of cs ≡ ns → bound ns ≤ c
-    → columns_of (entered_columns c cs) ≡ c ∷ ns
+entered_anew : (c : ℕ) (cs : List OpenColumn) (ns : List ℕ) → cols cs ≡ ns → bound ns ≤ c
+    → cols (entered_columns c cs) ≡ c ∷ ns
 unfolding entered_columns
 entered_anew c [] ns e h = ap (λ (ns : List ℕ). c ∷ ns) e
 entered_anew c (k ∷ ks) ns e h =
     let less : suc k.column ≤ c = subst (λ (ns : List ℕ). bound ns ≤ c) (sym e) h in
     let test : (k.column == c) ≡ false = grind (arith, nat_tests) in
-    ap (λ v. c ∷ columns_of (if v then ks else k ∷ ks)) test ∙ ap (λ (ns : List ℕ). c ∷ ns) e
+    ap (λ v. c ∷ cols (if v then ks else k ∷ ks)) test ∙ ap (λ (ns : List ℕ). c ∷ ns) e
 
-pub entered_map : {limit c : ℕ} {ds cs : List ℕ} (columns : List OpenColumn) → columns_of columns ≡ up_to c ds
-    → Enters limit c ds cs → columns_of (entered_columns c columns) ≡ c ∷ cs
+pub entered_map : {limit c : ℕ} {ds cs : List ℕ} (columns : List OpenColumn) → cols columns ≡ up_to c ds
+    → Enters limit c ds cs → cols (entered_columns c columns) ≡ c ∷ cs
 entered_map {c = c} {cs = cs} columns e (again f) = entered_again c columns cs (e ∙ f)
 entered_map {c = c} {cs = cs} columns e (anew f h r) = entered_anew c columns cs (e ∙ f) h
 
@@ -78,14 +79,14 @@ abbrev RoomIn : ℕ → ℕ → List OpenColumn → Type 0
 RoomIn limit n columns =
     ((c : OpenColumn) × (cs : List OpenColumn) × (columns ≡ c ∷ cs) × (c.column ≡ n)) ⊎ (length columns < limit)
 
-room_again : (limit c : ℕ) (cs : List OpenColumn) (ns : List ℕ) → columns_of cs ≡ c ∷ ns → RoomIn limit c cs
+room_again : (limit c : ℕ) (cs : List OpenColumn) (ns : List ℕ) → cols cs ≡ c ∷ ns → RoomIn limit c cs
 room_again limit c [] ns e = absurd cc
 room_again limit c (k ∷ ks) ns e = inl (k, ks, refl, cc)
 
-pub room_in : {limit c : ℕ} {ds cs : List ℕ} (columns : List OpenColumn) → columns_of columns ≡ up_to c ds
+pub room_in : {limit c : ℕ} {ds cs : List ℕ} (columns : List OpenColumn) → cols columns ≡ up_to c ds
     → Enters limit c ds cs → RoomIn limit c columns
 room_in {limit = limit} {c = c} {cs = cs} columns e (again f) = room_again limit c columns cs (e ∙ f)
 room_in {limit = limit} {c = c} {cs = cs} columns e (anew f h r) =
-    let same : length (columns_of columns) ≡ length cs = ap (length {A = ℕ}) (e ∙ f) in
+    let same : length (cols columns) ≡ length cs = ap (length {A = ℕ}) (e ∙ f) in
     let long = columns_length columns in
     inr (omega (arith, same, long, r))

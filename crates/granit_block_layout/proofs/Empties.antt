@@ -7,17 +7,18 @@ use Rattle.granit_base.specs.Place.{Mark}
 use Rattle.granit_block_layout.proofs.Columns.{widened_map}
 use Rattle.granit_block_layout.proofs.Keyed.{node_on, noded_kept, open_columns}
 use Rattle.granit_block_layout.proofs.Lines.{along_one, is_flat}
-use Rattle.granit_block_layout.proofs.Ready.{Around, Arrived, Behind, OnLine, bound, columns_of, inside, leads}
+use Rattle.granit_block_layout.proofs.Ready.{Around, Arrived, Behind, OnLine, bound, inside, leads}
 use Rattle.granit_block_layout.proofs.Ready.{outside, tail_read}
 use Rattle.granit_block_layout.proofs.Signs.{keyed_outside, no_left_inside}
 use Rattle.granit_block_layout.proofs.Taking.{Taken}
-use Rattle.granit_canonical.proofs.Places.{Starts, held_on, stepped_text}
+use Rattle.granit_canonical.proofs.Places.{Starts, held_on}
 use Rattle.granit_canonical.proofs.Taking.{begins_text}
 use Rattle.granit_canonical.proofs.Signs.{closer_begins, opener_begins}
 use Rattle.granit_error.specs.OptionsData.{OptionsData}
 use Rattle.granit_language.specs.Before.{behind, in_front}
 use Rattle.granit_language.specs.Reached.{ends_column_by}
 use Rattle.granit_language.specs.Standing.{ClosesInnermost}
+use Rattle.granit_lexemes.proofs.HereLemmas.{stepped_text}
 use Rattle.granit_lexemes.specs.HeaderExtent.{uncommented}
 use Rattle.granit_lexemes.specs.Here.{mark_of, step}
 use Rattle.granit_lexemes.specs.Lexeme.{Close, Open, closer_char, opener_char}
@@ -29,6 +30,7 @@ use Rattle.granit_machine.specs.Columns.{up_to_column}
 use Rattle.granit_machine.specs.Laid.{is_adjacent, is_in_flow, is_nonempty}
 use Rattle.granit_machine.specs.LexemeSort.{CloseSign, OpenSign, Placed}
 use Rattle.granit_machine.specs.ReaderState.{ReaderState, lexeme_to, with_tail}
+use Rattle.granit_reading.proofs.ColumnsLaw.{cols}
 
 opener_flat : (b : Bracket) → is_flat (opener_char b) ≡ true
 unfolding is_break
@@ -64,14 +66,14 @@ closed_around : (b : Bracket) (obs : List OpenBracket) → Around (b ∷ []) obs
 closed_around _ _ (inside b m) = outside
 
 kept_columns : (b : Bracket) (obs : List OpenBracket) (cs : List OpenColumn) (n : ℕ) → Around (b ∷ []) obs
-    → columns_of (if is_nonempty obs then cs else up_to_column n cs) ≡ columns_of cs
+    → cols (if is_nonempty obs then cs else up_to_column n cs) ≡ cols cs
 kept_columns _ _ cs n (inside b m) = refl
 
 -- what is right of all open columns is left of no node
-not_left : (n : ℕ) (columns : List OpenColumn) → bound (columns_of columns) ≤ n
+not_left : (n : ℕ) (columns : List OpenColumn) → bound (cols columns) ≤ n
     → ((c : OpenColumn) × (cs : List OpenColumn) × (columns ≡ c ∷ cs) × (n ≤ c.column)) → ⊥
 not_left n columns h l =
-    let b : suc (l.0).column ≤ n = subst (λ (cs : List OpenColumn). bound (columns_of cs) ≤ n) l.2 h in
+    let b : suc (l.0).column ≤ n = subst (λ (cs : List OpenColumn). bound (cols cs) ≤ n) l.2 h in
     let k = l.3 in
     omega (arith, b, k)
 
@@ -139,7 +141,7 @@ module _ (o : OptionsData) (x : List ℕ) where
       let at = a.lies in
       let tail = tail_read x c (bound cs) rest t.laid.key (step h) st end text
       (node_on (bound cs) t.laid.key t.laid.key h (step h) along at at.kept) in
-      let columns : columns_of l.columns ≡ cs =
+      let columns : cols l.columns ≡ cs =
       kept_columns b t.laid.brackets t.laid.columns h.place.column a.around ∙ a.columns in
       let y = with_tail (lexeme_to (ends_column_by (Placed (CloseSign b)) t) (Close b) (mark_of (step h)) h l) None in
       record {

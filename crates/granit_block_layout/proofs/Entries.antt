@@ -10,7 +10,7 @@ use Rattle.granit_block_layout.proofs.Columns.{Enters, again, up_self}
 use Rattle.granit_block_layout.proofs.Fronts.{block_pair, open_behind, open_gap, open_starts, open_text, opening}
 use Rattle.granit_block_layout.proofs.Lines.{indent_front}
 use Rattle.granit_block_layout.proofs.Nodes.{Closes, NodeRead}
-use Rattle.granit_block_layout.proofs.Passing.{Follows, before, right_of, value_in}
+use Rattle.granit_block_layout.proofs.Passing.{Follows, right_of, value_in}
 use Rattle.granit_block_layout.proofs.Ready.{Begun, Ready, bound, leads}
 use Rattle.granit_block_layout.proofs.Signs.{takes_colon, takes_dash, takes_question}
 use Rattle.granit_block_layout.proofs.Taking.{reads_one}
@@ -26,7 +26,7 @@ use Rattle.granit_generator.specs.BlockText.{block_node, indent}
 use Rattle.granit_language.specs.Node.{Asked, Just, Node, Pair, WithColon}
 use Rattle.granit_language.specs.Placed.{PairPlaced, Placed, pair_front}
 use Rattle.granit_language.specs.Room.{BlockIn, RightOf, ValueIn}
-use Rattle.granit_language.specs.Telling.{events_told}
+use Rattle.granit_language.specs.Telling.{events_told, one_less}
 use Rattle.granit_language.specs.Terminal.{At, Colon, Dash, Question, Terminal, edge, terminal}
 use Rattle.granit_language.specs.TreeEvents.{TreeEvent, node_events, pair_events}
 use Rattle.granit_language.specs.Within.{node_within, pair_within}
@@ -42,7 +42,7 @@ pub record EntryRead (o : OptionsData) (x : List ℕ) (cs : List ℕ) (c reach :
   pub dash : At
   pub node : Node
   pub passage : Passage o s a (past_tree t a) (λ more. terminal Dash dash ∷ spell node more) after
-  pub ready : Ready x next [] left (Begun (before reach)) after
+  pub ready : Ready x next [] left (Begun (one_less reach)) after
   pub closes : Closes reach left (c ∷ cs)
   pub stands : (edge dash == suc c) ≡ true
   pub follows : Follows x (suc c) here (terminal Dash dash)
@@ -58,7 +58,7 @@ pub record PairRead (o : OptionsData) (x : List ℕ) (cs : List ℕ) (c reach : 
   pub left : List ℕ
   pub pair : Pair
   pub passage : Passage o s a (past_tree v (past_tree k a)) (spell_pair pair) after
-  pub ready : Ready x next [] left (Begun (before reach)) after
+  pub ready : Ready x next [] left (Begun (one_less reach)) after
   pub closes : Closes reach left (c ∷ cs)
   pub follows : Follows x (suc c) here (pair_front pair)
   pub placed : (y : Terminal) → Follows x reach next y → PairPlaced pair (BlockIn (suc c)) y
@@ -75,7 +75,7 @@ module _ (o : OptionsData) (x : List ℕ) where
   abbrev pub Readable : PlainTree → List (List ℕ) → Type 0
   Readable t known =
       (cs : List ℕ) (d reach : ℕ) (next rest : List ℕ) (s : ReaderState) (a : Anchors) → bound cs ≤ d → reach ≤ d
-      → Starts next → rest ≡ indent (before reach) [] ++ next → Knows known a
+      → Starts next → rest ≡ indent (one_less reach) [] ++ next → Knows known a
       → tree_depth t + length cs ≤ o.block_nesting_limit → tree_depth t ≤ o.flow_nesting_limit
       → Ready x (open_text d t rest) [] cs (leads (open_behind d t) (bound cs)) s
       → NodeRead o x cs reach next s a (past_tree t a) (tree_tells o t a)
@@ -87,7 +87,7 @@ module _ (o : OptionsData) (x : List ℕ) where
 
   pub entry_read : (cs ds : List ℕ) (c reach : ℕ) (next rest : List ℕ) (s : ReaderState) (t : PlainTree) (a : Anchors)
       (known : List (List ℕ)) → Enters o.block_nesting_limit c ds cs → reach ≤ suc c → Starts next
-      → rest ≡ indent (before reach) [] ++ next → Readable t known → Knows known a
+      → rest ≡ indent (one_less reach) [] ++ next → Readable t known → Knows known a
       → tree_depth t + suc (length cs) ≤ o.block_nesting_limit → tree_depth t ≤ o.flow_nesting_limit
       → Ready x (0x2D ∷ block_node (c + 2) t rest) [] ds (Begun c) s
       → EntryRead o x cs c reach (0x2D ∷ block_node (c + 2) t rest) next s t a
@@ -126,7 +126,7 @@ module _ (o : OptionsData) (x : List ℕ) where
 
   pub pair_read : (cs ds : List ℕ) (c reach : ℕ) (next rest : List ℕ) (s : ReaderState) (k v : PlainTree)
       (a : Anchors) (known : List (List ℕ)) → Enters o.block_nesting_limit c ds cs → reach ≤ suc c → Starts next
-      → rest ≡ indent (before reach) [] ++ next → Readable k known → Readable v (behind_tree k known) → Knows known a
+      → rest ≡ indent (one_less reach) [] ++ next → Readable k known → Readable v (behind_tree k known) → Knows known a
       → tree_depth k + suc (length cs) ≤ o.block_nesting_limit → tree_depth k ≤ o.flow_nesting_limit
       → tree_depth v + suc (length cs) ≤ o.block_nesting_limit → tree_depth v ≤ o.flow_nesting_limit
       → Ready x (block_pair c k v rest) [] ds (Begun c) s

@@ -1,13 +1,13 @@
 -- The key that a lexeme of a node begins, or goes on with, in block text.
 use Rattle.std.proofs.Common.{Bool, List, Option, [], arith, false, not, refl, subst, sym, true, ℕ, ◌||◌}
 use Rattle.std.proofs.Common.{◌∙◌, ◌∷◌, ◌≡◌, ◌≤◌}
+use Rattle.std.proofs.lemmas.Bool.{and_right}
 use Rattle.std.proofs.lemmas.Bool.Decides.{nat_tests}
 use Rattle.std.specs.Prelude.{None, Some, if◌then◌else◌}
 use Rattle.granit_block_layout.proofs.Columns.{closed_map, up_bound}
 use Rattle.granit_block_layout.proofs.Lines.{Along}
-use Rattle.granit_block_layout.proofs.Ready.{Around, Kept, NodeAt, bound, columns_of, kept_on, one_kept}
+use Rattle.granit_block_layout.proofs.Ready.{Around, Kept, NodeAt, bound, kept_on, one_kept}
 use Rattle.granit_block_layout.proofs.Signs.{key_outside, top_outside}
-use Rattle.granit_canonical.proofs.Calm.{and_false}
 use Rattle.granit_lexemes.specs.Here.{Here, mark_of}
 use Rattle.granit_lexemes.specs.LayoutData.{is_left}
 use Rattle.granit_lexemes.specs.declared.layout.OpenColumn.{OpenColumn}
@@ -16,18 +16,19 @@ use Rattle.granit_machine.specs.Columns.{closed_at}
 use Rattle.granit_machine.specs.Laid.{Laid, block_column, innermost_column, is_column, is_in_flow}
 use Rattle.granit_machine.specs.PossibleKeys.{is_allowed, key_goes_on, new_key, node_key, top_key}
 use Rattle.granit_machine.specs.Reader.{noded}
+use Rattle.granit_reading.proofs.ColumnsLaw.{cols}
 
-no_column : (columns : List OpenColumn) (n : ℕ) → bound (columns_of columns) ≤ n
+no_column : (columns : List OpenColumn) (n : ℕ) → bound (cols columns) ≤ n
     → is_column (innermost_column columns) n ≡ false
 no_column [] n h = refl
 no_column (c ∷ cs) n h = grind (arith, nat_tests)
 
 -- what is right of all open columns needs no `:`
-new_kept : (property : Bool) (h : Here) (l : Laid) → bound (columns_of l.columns) ≤ h.place.column
+new_kept : (property : Bool) (h : Here) (l : Laid) → bound (cols l.columns) ≤ h.place.column
     → Kept (Some (new_key property (mark_of h) l)) h.place.line
 new_kept property h l b =
     one_kept (new_key property (mark_of h) l) h.place.line
-    (and_false (not (is_in_flow l)) (is_column (block_column l) h.place.column)
+    (and_right (not (is_in_flow l)) (is_column (block_column l) h.place.column)
     (no_column l.columns h.place.column b)) (omega arith)
 
 goes_kept : (property low : Bool) (key : Option PossibleKey) (n : ℕ) → Kept key n
@@ -44,7 +45,7 @@ choose_kept : (v : Bool) (a b : Option PossibleKey) (n : ℕ) → Kept a n → K
 choose_kept true a b n p q = p
 choose_kept false a b n p q = q
 
-node_kept : (property allowed : Bool) (h : Here) (l : Laid) → bound (columns_of l.columns) ≤ h.place.column
+node_kept : (property allowed : Bool) (h : Here) (l : Laid) → bound (cols l.columns) ≤ h.place.column
     → Around [] l.brackets → Kept l.key h.place.line → Kept (node_key property allowed (mark_of h) l) h.place.line
 unfolding node_key
 node_kept property allowed h l b a k =
@@ -55,12 +56,12 @@ node_kept property allowed h l b a k =
     (subst (λ (key : Option PossibleKey). Kept key h.place.line) (sym (top_outside l.brackets l.key a)) k))
 
 -- the columns at a place right of all that are open
-pub open_columns : (n : ℕ) (l : Laid) (cs : List ℕ) → Around [] l.brackets → columns_of l.columns ≡ cs → bound cs ≤ n
-    → columns_of (closed_at n l).columns ≡ cs
+pub open_columns : (n : ℕ) (l : Laid) (cs : List ℕ) → Around [] l.brackets → cols l.columns ≡ cs → bound cs ≤ n
+    → cols (closed_at n l).columns ≡ cs
 open_columns n l cs a e b = closed_map n l.brackets l.columns cs a e ∙ up_bound n cs b
 
 pub noded_kept : (property : Bool) (h : Here) (l : Laid) (cs : List ℕ) → Around [] l.brackets
-    → columns_of l.columns ≡ cs → NodeAt (bound cs) l.key h
+    → cols l.columns ≡ cs → NodeAt (bound cs) l.key h
     → Kept (noded property h (closed_at h.place.column l)).key h.place.line
 noded_kept property h l cs a e n =
     let t = closed_at h.place.column l in

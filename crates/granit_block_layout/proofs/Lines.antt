@@ -4,12 +4,12 @@ use Rattle.std.proofs.Common.{◌&&◌, ◌++◌, ◌+◌, ◌==◌, ◌||◌, �
 use Rattle.std.specs.Prelude.{None, if◌then◌else◌}
 use Rattle.granit_base.specs.Classes.{is_blank, is_break, is_gap}
 use Rattle.granit_base.specs.Place.{Mark, Place, ends_line, first, past_first, place_after}
-use Rattle.granit_canonical.proofs.Places.{stepped_text}
 use Rattle.granit_generator.specs.BlockText.{indent}
-use Rattle.granit_lexemes.proofs.HereLemmas.{no_line_end, not_empty}
+use Rattle.granit_lexemes.proofs.HereLemmas.{no_line_end, not_empty, stepped_text}
 use Rattle.granit_lexemes.specs.Gap.{Each, IsGap}
 use Rattle.granit_lexemes.specs.Here.{Here, begins_behind, first_tab, is_quiet, mark_of, next_char, step, tab_behind}
 use Rattle.granit_lexemes.specs.PlainExtent.{over}
+use Rattle.granit_reading.proofs.Counting.{place_by}
 
 -- a character that stands on its line, and is no tab
 abbrev pub is_flat : ℕ → Bool
@@ -42,11 +42,6 @@ moved h = record {
 step_is : (c : ℕ) (t : List ℕ) (h : Here) → h.unread.text ≡ c ∷ t → step h ≡ moved h
 unfolding step
 step_is c t h e = ap (λ b. if b then h else moved h) (ap (λ (l : List ℕ). length l == 0) e ∙ not_empty c t)
-
--- what is said of the next place, by whether a line ends here
-abbrev place_if : Bool → Place → Place
-place_if v p = if v then record { index = p.index + 1; line = p.line + 1; column = 0 } else
-    record { index = p.index + 1; line = p.line; column = p.column + 1 }
 
 abbrev tab_if : (ended quiet is_tab : Bool) → Here → Option Mark
 tab_if ended quiet is_tab h =
@@ -86,8 +81,8 @@ pub along_one : (c : ℕ) (t : List ℕ) (h : Here) → h.unread.text ≡ c ∷ 
 along_one c t h e f =
     let s = step_is c t h e in
     let n : ends_line h.unread.text ≡ false = ap ends_line e ∙ no_line_end c t (flat_break c f) in
-    let p : (step h).place ≡ place_if false h.place = ap (λ (g : Here). g.place) s
-    ∙ ap (λ v. place_if v h.place) n in
+    let p : (step h).place ≡ place_by false h.place = ap (λ (g : Here). g.place) s
+    ∙ ap (λ v. place_by v h.place) n in
     let column : (step h).place.column ≡ h.place.column + 1 = ap (λ (p : Place). p.column) p in (
       record {
         column = omega (arith, column);
@@ -118,7 +113,7 @@ over_feed : (t : List ℕ) (h : Here) → h.unread.text ≡ 0x0A ∷ t → Begin
 over_feed t h e =
     let s = step_is 0x0A t h e in
     let n : ends_line h.unread.text ≡ true = ap ends_line e in
-    let p : (step h).place ≡ place_if true h.place = ap (λ (g : Here). g.place) s ∙ ap (λ v. place_if v h.place) n in
+    let p : (step h).place ≡ place_by true h.place = ap (λ (g : Here). g.place) s ∙ ap (λ v. place_by v h.place) n in
     record {
       column = ap (λ (p : Place). p.column) p;
       on = ap (λ (p : Place). p.line) p;

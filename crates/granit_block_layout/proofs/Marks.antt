@@ -4,7 +4,7 @@ use Rattle.std.specs.Prelude.{None, if◌then◌else◌}
 use Rattle.granit_base.specs.Classes.{is_break}
 use Rattle.granit_block_layout.proofs.Lines.{along_all, is_flat}
 use Rattle.granit_block_layout.proofs.Ready.{Around, Arrived, Begun, Behind, Lies, around_none, behind_gap_is}
-use Rattle.granit_block_layout.proofs.Ready.{columns_of, lands, leads, lies_mild, none_kept, none_past, outside}
+use Rattle.granit_block_layout.proofs.Ready.{lands, leads, lies_mild, none_kept, none_past, outside}
 use Rattle.granit_block_layout.proofs.Signs.{key_outside, keyed_outside, next_parts, top_outside}
 use Rattle.granit_block_layout.proofs.Taking.{Taken}
 use Rattle.granit_canonical.proofs.Calm.{Mild}
@@ -28,13 +28,14 @@ use Rattle.granit_machine.specs.Columns.{closed_all}
 use Rattle.granit_machine.specs.Laid.{Laid, is_nonempty}
 use Rattle.granit_machine.specs.LexemeSort.{StartMark, TextEnd}
 use Rattle.granit_machine.specs.ReaderState.{ReaderState, lexeme_to}
+use Rattle.granit_reading.proofs.ColumnsLaw.{cols}
 
 dashes_flat : Each is_flat (0x2D ∷ 0x2D ∷ 0x2D ∷ [])
 unfolding is_break
 dashes_flat = (refl, (refl, (refl, tt)))
 
 all_closed : (obs : List OpenBracket) (cs : List OpenColumn) → Around [] obs
-    → columns_of (if is_nonempty obs then cs else []) ≡ []
+    → cols (if is_nonempty obs then cs else []) ≡ []
 all_closed _ cs outside = refl
 
 none_required : (l : Laid) → Around [] l.brackets → Mild l.key → NoneRequired l

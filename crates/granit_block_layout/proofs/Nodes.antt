@@ -13,7 +13,7 @@ use Rattle.granit_base.specs.declared.style.ScalarStyle.TheVariants.{DoubleQuote
 use Rattle.granit_block_layout.proofs.Empties.{takes_closer, takes_opener}
 use Rattle.granit_block_layout.proofs.Fronts.{front_behind, front_text, inline_front}
 use Rattle.granit_block_layout.proofs.Names.{takes_alias, takes_anchor, takes_tag}
-use Rattle.granit_block_layout.proofs.Passing.{BlockRoom, Follows, before, part_in, room_on}
+use Rattle.granit_block_layout.proofs.Passing.{BlockRoom, Follows, part_in, room_on}
 use Rattle.granit_block_layout.proofs.Quotes.{takes_quoted}
 use Rattle.granit_block_layout.proofs.Ready.{Begun, Behind, OnLine, Ready, Where, bound, fed_to, leads, spaced, up_to}
 use Rattle.granit_block_layout.proofs.Taking.{OneRead, reads_one}
@@ -36,7 +36,7 @@ use Rattle.granit_language.specs.Room.{Room, room_behind}
 use Rattle.granit_language.specs.Scope.{entry_of}
 use Rattle.granit_language.specs.Scoping.{alias_fault}
 use Rattle.granit_language.specs.Seen.{indent_of}
-use Rattle.granit_language.specs.Telling.{alias_told, anchor_told, events_told, node_told, number_told}
+use Rattle.granit_language.specs.Telling.{alias_told, anchor_told, events_told, node_told, number_told, one_less}
 use Rattle.granit_language.specs.Telling.{properties_anchor, properties_tag, tag_told}
 use Rattle.granit_language.specs.Terminal.{Alias, Anchor, At, Close, Open, Part, Property, Scalar, Tag, Terminal}
 use Rattle.granit_language.specs.Terminal.{terminal}
@@ -80,7 +80,7 @@ pub record NodeRead (o : OptionsData) (x : List ℕ) (cs : List ℕ) (reach : �
   pub left : List ℕ
   pub node : Node
   pub passage : Passage o s a c (spell node) after
-  pub ready : Ready x next [] left (Begun (before reach)) after
+  pub ready : Ready x next [] left (Begun (one_less reach)) after
   pub closes : Closes reach left cs
   pub placed : (room : Room) → BlockRoom (bound cs) room → (y : Terminal) → Follows x reach next y
       → Placed node room y
@@ -200,14 +200,14 @@ module _ (o : OptionsData) (x : List ℕ) where
 
   pub alias_read : (cs : List ℕ) (reach : ℕ) (name next : List ℕ) (s : ReaderState) (a : Anchors) (n : ℕ)
       → IsAnchorName name → entry_of name a.names ≡ Some n
-      → Ready x (0x2A ∷ (name ++ ((0x0A ∷ indent (before reach) []) ++ next))) [] cs (OnLine (bound cs)) s
+      → Ready x (0x2A ∷ (name ++ ((0x0A ∷ indent (one_less reach) []) ++ next))) [] cs (OnLine (bound cs)) s
       → NodeRead o x cs reach next s a a (λ more. plain_alias name a ∷ more)
   alias_read cs reach name next s a n is known r =
-      let g = 0x0A ∷ indent (before reach) [] in
+      let g = 0x0A ∷ indent (one_less reach) [] in
       let from = 0x2A ∷ (name ++ (g ++ next)) in
-      let q = reads_one o x [] [] cs cs (OnLine (bound cs)) (Begun (before reach)) (sorts.Placed sorts.AliasSign)
+      let q = reads_one o x [] [] cs cs (OnLine (bound cs)) (Begun (one_less reach)) (sorts.Placed sorts.AliasSign)
       (lexemes.Alias (lent_name name)) from next s r (star_starts (name ++ (g ++ next)))
-      (λ t b. takes_alias o x (fed_to (before reach)) cs name next t is b) in
+      (λ t b. takes_alias o x (fed_to (one_less reach)) cs name next t is b) in
       record {
         after = q.after;
         left = cs;
@@ -229,17 +229,17 @@ module _ (o : OptionsData) (x : List ℕ) where
   pub scalar_read : (cs : List ℕ) (reach : ℕ) (p : Properties) (chars next : List ℕ) (s : ReaderState) (a : Anchors)
       → Starts next → CanStand p → scalars chars ≡ true
       → Ready x (properties_text p (0x22 ∷ quoted_characters chars
-      (0x22 ∷ ((0x0A ∷ indent (before reach) []) ++ next)))) [] cs (OnLine (bound cs)) s
+      (0x22 ∷ ((0x0A ∷ indent (one_less reach) []) ++ next)))) [] cs (OnLine (bound cs)) s
       → NodeRead o x cs reach next s a (past_anchor p.anchor a)
       (node_tells o a p.tag p.anchor (plain.Scalar (between_quotes chars) DoubleQuoted))
   scalar_read cs reach p chars next s a st can w ready =
-      let own = 0x22 ∷ quoted_characters chars (0x22 ∷ ((0x0A ∷ indent (before reach) []) ++ next)) in
+      let own = 0x22 ∷ quoted_characters chars (0x22 ∷ ((0x0A ∷ indent (one_less reach) []) ++ next)) in
       let r = properties_read spaced cs own s p.tag p.anchor a can.0.0 can.1.0 can.0.1
       (in_front p.tag p.anchor cs own s ready) in
-      let q = reads_one o x [] [] cs cs (OnLine (bound cs)) (Begun (before reach))
+      let q = reads_one o x [] [] cs cs (OnLine (bound cs)) (Begun (one_less reach))
       (sorts.Placed (sorts.QuoteSign false)) (lexemes.Scalar DoubleQuoted (between_quotes chars)) own next r.after
-      r.ready (quote_starts (quoted_characters chars (0x22 ∷ ((0x0A ∷ indent (before reach) []) ++ next))))
-      (λ t b. takes_quoted o x (before reach) cs chars next t st w b) in
+      r.ready (quote_starts (quoted_characters chars (0x22 ∷ ((0x0A ∷ indent (one_less reach) []) ++ next))))
+      (λ t b. takes_quoted o x (one_less reach) cs chars next t st w b) in
       let b = past_anchor p.anchor a in
       let i = place_in b q.lexeme in
       let second = passage_one o (lexemes.Scalar DoubleQuoted (between_quotes chars)) r.after b b q.read refl refl refl
@@ -266,22 +266,23 @@ module _ (o : OptionsData) (x : List ℕ) where
   -- a collection without entries
   pub empty_read : (d : Bracket) (cs : List ℕ) (reach : ℕ) (p : Properties) (next : List ℕ) (s : ReaderState)
       (a : Anchors) → Starts next → CanStand p → 0 < o.flow_nesting_limit
-      → Ready x (properties_text p (opener_char d ∷ closer_char d ∷ ((0x0A ∷ indent (before reach) []) ++ next))) [] cs
+      → Ready x (properties_text p (opener_char d ∷ closer_char d ∷ ((0x0A ∷ indent (one_less reach) []) ++ next)))
+          [] cs
       (OnLine (bound cs)) s
       → NodeRead o x cs reach next s a (past_anchor p.anchor a)
       (λ more. node_tells o a p.tag p.anchor (opening d) (ending d ∷ more))
   empty_read d cs reach p next s a st can room ready =
-      let closing = closer_char d ∷ ((0x0A ∷ indent (before reach) []) ++ next) in
+      let closing = closer_char d ∷ ((0x0A ∷ indent (one_less reach) []) ++ next) in
       let own = opener_char d ∷ closing in
       let r = properties_read spaced cs own s p.tag p.anchor a can.0.0 can.1.0 can.0.1
       (in_front p.tag p.anchor cs own s ready) in
       let q = reads_one o x [] (d ∷ []) cs cs (OnLine (bound cs)) (OnLine (bound cs)) (sorts.Placed (sorts.OpenSign d))
       (lexemes.Open d) own closing r.after r.ready (opener_starts d closing)
-      (λ t b. takes_opener o x d cs ((0x0A ∷ indent (before reach) []) ++ next) t room b) in
-      let z = reads_one o x (d ∷ []) [] cs cs (OnLine (bound cs)) (Begun (before reach))
+      (λ t b. takes_opener o x d cs ((0x0A ∷ indent (one_less reach) []) ++ next) t room b) in
+      let z = reads_one o x (d ∷ []) [] cs cs (OnLine (bound cs)) (Begun (one_less reach))
       (sorts.Placed (sorts.CloseSign d)) (lexemes.Close d) closing next q.after q.ready
-      (closer_starts d ((0x0A ∷ indent (before reach) []) ++ next))
-      (λ t b. takes_closer o x (fed_to (before reach)) d cs next t st b) in
+      (closer_starts d ((0x0A ∷ indent (one_less reach) []) ++ next))
+      (λ t b. takes_closer o x (fed_to (one_less reach)) d cs next t st b) in
       let b = past_anchor p.anchor a in
       let i = place_in b q.lexeme in
       let e = place_in b z.lexeme in

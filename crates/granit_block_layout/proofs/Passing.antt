@@ -1,5 +1,5 @@
 -- Where nodes of block text may stand, and what follows them.
-use Rattle.std.proofs.Common.{List, arith, suc, true, zero, ℕ, ◌≡◌, ◌≤◌}
+use Rattle.std.proofs.Common.{List, arith, suc, true, ℕ, ◌≡◌, ◌≤◌}
 use Rattle.std.proofs.lemmas.Bool.Decides.{nat_tests}
 use Rattle.std.specs.Prelude.{nat_lt}
 use Rattle.granit_canonical.proofs.Passing.{place_in}
@@ -36,11 +36,6 @@ collection_in {m = m} value_in c h = grind (arith, nat_tests)
 pub record Follows (x : List ℕ) (reach : ℕ) (next : List ℕ) (y : Terminal) : Type 0 where
   pub start : y.at.start ≡ spot x next
   pub reaches : reach_of y.kind y.at ≤ reach
-
--- the column that is reached
-abbrev pub before : ℕ → ℕ
-before zero = zero
-before (suc n) = n
 
 pub follows_left : (x : List ℕ) (reach c : ℕ) (next : List ℕ) (y : Terminal) → Follows x reach next y → reach ≤ c
     → stands_left y (suc c) ≡ true

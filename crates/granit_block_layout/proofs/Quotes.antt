@@ -11,19 +11,21 @@ use Rattle.granit_block_layout.proofs.Keyed.{node_on, noded_kept, open_columns}
 use Rattle.granit_block_layout.proofs.Lines.{along_all, along_then, is_flat, line_gap}
 use Rattle.granit_block_layout.proofs.Ready.{Arrived, Begun, OnLine, bound, fed_to, lands}
 use Rattle.granit_block_layout.proofs.Signs.{keyed_outside, no_left_inside}
-use Rattle.granit_block_layout.proofs.Taking.{Taken, no_cut_fits, no_tab_fits}
+use Rattle.granit_block_layout.proofs.Taking.{Taken, no_tab_fits}
+use Rattle.granit_canonical.proofs.Calm.{no_cut_fits}
 use Rattle.granit_canonical.proofs.Fronts.{quoted_front}
 use Rattle.granit_canonical.proofs.Places.{Starts, blank_feed, gap_stops, gap_to, past_all}
 use Rattle.granit_canonical.proofs.Quoting.{spelled_between}
 use Rattle.granit_canonical.proofs.Taking.{begins_text}
 use Rattle.granit_canonical.specs.Canonical.{between_quotes}
-use Rattle.granit_canonical.proofs.Quotes.{closing_quote, ends_by, feed_prints, feed_trails, quote_begins, text_between}
+use Rattle.granit_canonical.proofs.Quotes.{closing_quote, ends_by, feed_trails, quote_begins, text_between}
 use Rattle.granit_error.specs.OptionsData.{OptionsData}
 use Rattle.granit_generator.specs.BlockText.{indent}
 use Rattle.granit_language.specs.Allowed.{MayPrefix}
 use Rattle.granit_language.specs.Before.{in_front}
 use Rattle.granit_language.specs.Reached.{ends_column_by}
 use Rattle.granit_language.specs.Standing.{in_front_of_lexeme, quoted_lexeme_of}
+use Rattle.granit_lexemes.proofs.CharTests.{feed_prints}
 use Rattle.granit_lexemes.specs.Gap.{Each}
 use Rattle.granit_lexemes.specs.Here.{Here, mark_of}
 use Rattle.granit_lexemes.specs.LayoutData.{LayoutData}

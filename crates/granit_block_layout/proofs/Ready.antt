@@ -8,21 +8,23 @@ use Rattle.granit_base.specs.Classes.{is_blank}
 use Rattle.granit_base.specs.Place.{Mark, Place, first}
 use Rattle.granit_block_layout.proofs.Lines.{along_one, line_gap, over_line, space_flat}
 use Rattle.granit_canonical.proofs.Calm.{Mild, some_same}
-use Rattle.granit_canonical.proofs.Places.{Held, Starts, blank_feed, blank_space, no_blank, past_all, space_gap}
+use Rattle.granit_canonical.proofs.Places.{Held, Starts, blank_feed, blank_space, past_all, space_gap}
 use Rattle.granit_error.specs.OptionsData.{OptionsData}
 use Rattle.granit_generator.specs.BlockText.{indent}
 use Rattle.granit_language.specs.Stretch.{TailIf}
+use Rattle.granit_lexemes.proofs.CharTests.{solid_no_blank}
 use Rattle.granit_lexemes.specs.Gap.{IsGap}
 use Rattle.granit_lexemes.specs.HeaderExtent.{LexemeTail, uncommented}
 use Rattle.granit_lexemes.specs.Here.{Here}
 use Rattle.granit_lexemes.specs.PlainExtent.{over}
 use Rattle.granit_lexemes.specs.declared.layout.Bracket.{Bracket}
 use Rattle.granit_lexemes.specs.declared.layout.OpenBracket.{OpenBracket}
-use Rattle.granit_lexemes.specs.declared.layout.OpenColumn.{OpenColumn}
 use Rattle.granit_lexemes.specs.declared.layout.PossibleKey.{PossibleKey}
 use Rattle.granit_machine.specs.Laid.{is_nonempty}
 use Rattle.granit_machine.specs.PossibleKeys.{fresh_bracket, fresh_key, is_stale}
 use Rattle.granit_machine.specs.ReaderState.{ReaderState}
+use Rattle.granit_reading.proofs.ColumnsLaw.{cols}
+use Rattle.granit_reading.proofs.KeysLaw.{fresh_some}
 
 -- ---- keys
 
@@ -46,15 +48,6 @@ one_kept k n p q j e =
 
 pub kept_on : (key : Option PossibleKey) (n m : ℕ) → n ≡ m → Kept key m → Kept key n
 kept_on key n m e h k f = let r = h k f in let q = r.1 in (r.0, omega (arith, e, q))
-
-fresh_from : (o : OptionsData) (in_flow : Bool) (m : Mark) (key : Option PossibleKey) (k : PossibleKey)
-    → fresh_key o in_flow m key ≡ Some k → key ≡ Some k
-fresh_from o in_flow m None k e = absurd cc
-fresh_from o in_flow m (Some j) k e = by (is_stale o in_flow m j) e
-  where
-    by : (v : Bool) → (if v then None else Some j) ≡ Some k → Some j ≡ Some k
-    by true f = absurd cc
-    by false f = f
 
 -- ---- places
 
@@ -100,13 +93,13 @@ pub lies_fresh : (w : Where) (o : OptionsData) (in_flow : Bool) (m : Mark) (key 
 lies_fresh (OnLine n) o in_flow m key p h = record {
   right = h.right;
   tab = h.tab;
-  kept = λ k e. h.kept k (fresh_from o in_flow m key k e);
+  kept = λ k e. h.kept k (fresh_some o in_flow m key k e);
 }
 lies_fresh (Begun n) o in_flow m key p h = record {
   column = h.column;
   begins = h.begins;
   tab = h.tab;
-  past = λ k e. h.past k (fresh_from o in_flow m key k e);
+  past = λ k e. h.past k (fresh_some o in_flow m key k e);
 }
 
 -- outside brackets no key is left at the front of a line
@@ -191,9 +184,6 @@ lands (fed_to c) m rest key e t n =
 
 -- ---- columns
 
-abbrev pub columns_of : List OpenColumn → List ℕ
-columns_of cs = map (λ (c : OpenColumn). c.column) cs
-
 -- the first column that is right of all open ones
 abbrev pub bound : List ℕ → ℕ
 bound [] = 0
@@ -213,7 +203,7 @@ pub record Ready (x next : List ℕ) (bs : List Bracket) (cs : List ℕ) (w : Wh
   pub is_gap : IsGap gap
   pub lies : Lies w s.laid.key (over gap s.here)
   pub around : Around bs s.laid.brackets
-  pub columns : columns_of s.laid.columns ≡ cs
+  pub columns : cols s.laid.columns ≡ cs
   pub cut : s.laid.cut ≡ None
 
 -- and at that place
@@ -223,7 +213,7 @@ pub record Arrived (x from : List ℕ) (bs : List Bracket) (cs : List ℕ) (w : 
   pub lies : Lies w t.laid.key t.here
   pub fresh : Fresh w bs t.laid.key
   pub around : Around bs t.laid.brackets
-  pub columns : columns_of t.laid.columns ≡ cs
+  pub columns : cols t.laid.columns ≡ cs
   pub cut : t.laid.cut ≡ None
 
 -- ---- tails
@@ -248,7 +238,7 @@ tail_read x spaced m rest key e s held t n =
     let p = past_all x (0x20 ∷ []) rest e t held in
     let l = lands spaced m rest key e t n in
     let tail : LexemeTail e None (over (0x20 ∷ []) e) = uncommented (0x20 ∷ []) rest
-    (record { whole = t; each = blank_space; all = no_blank (first rest) s.no_gap }) s.no_comment refl in record {
+    (record { whole = t; each = blank_space; all = solid_no_blank (first rest) s.no_gap }) s.no_comment refl in record {
       after = over (0x20 ∷ []) e;
       gap = [];
       tail = tail;

@@ -1,6 +1,7 @@
 -- `-`, `?` and `:` of block text stand at the front of their lines.
 use Rattle.std.proofs.Common.{Bool, List, Option, [], ap, arith, drop, false, map, refl, subst, suc, sym, true, ℕ}
-use Rattle.std.proofs.Common.{◌++◌, ◌==◌, ◌||◌, ◌∙◌, ◌∷◌, ◌≡◌}
+use Rattle.std.proofs.Common.{◌++◌, ◌==◌, ◌∙◌, ◌∷◌, ◌≡◌}
+use Rattle.std.proofs.lemmas.Bool.{or_left}
 use Rattle.std.proofs.lemmas.Bool.Decides.{nat_tests}
 use Rattle.std.specs.Prelude.{None, Some, if◌then◌else◌}
 use Rattle.granit_base.specs.Classes.{is_blank, is_blank_or_breakz, is_break, is_breakz, is_printable, is_z}
@@ -8,10 +9,11 @@ use Rattle.granit_base.specs.Place.{Mark, first}
 use Rattle.granit_block_layout.proofs.Columns.{Enters, closed_map, entered_map, room_in, widened_map}
 use Rattle.granit_block_layout.proofs.Lines.{along_one, is_flat}
 use Rattle.granit_block_layout.proofs.Ready.{Around, Arrived, Begun, Behind, Lies, LineAt, NodeAt, Ready}
-use Rattle.granit_block_layout.proofs.Ready.{around_none, behind_gap_is, columns_of, fed_to, lands, leads, lies_tab}
+use Rattle.granit_block_layout.proofs.Ready.{around_none, behind_gap_is, fed_to, lands, leads, lies_tab}
 use Rattle.granit_block_layout.proofs.Ready.{none_kept, outside, outside_flow, spaced, tail_read, up_to}
 use Rattle.granit_block_layout.proofs.Taking.{Taken, no_tab_fits}
-use Rattle.granit_canonical.proofs.Places.{Starts, gap_stops, gap_to, held_on, past_all, stepped_text}
+use Rattle.granit_canonical.proofs.Places.{Starts, gap_stops, gap_to, held_on, past_all}
+use Rattle.granit_canonical.proofs.Signs.{no_space}
 use Rattle.granit_canonical.proofs.Taking.{begins_text, begins_with}
 use Rattle.granit_error.specs.OptionsData.{OptionsData}
 use Rattle.granit_language.specs.Allowed.{DashBehindTab, EntryMayBegin, InFlow, LeftInside, NulBehind, RoomFor}
@@ -21,6 +23,7 @@ use Rattle.granit_language.specs.Begins.{Begins, ThreeStand, colon, dash, questi
 use Rattle.granit_language.specs.Reached.{ends_column_by}
 use Rattle.granit_language.specs.Standing.{ColonFits, QuestionStands, key_start, no_comment}
 use Rattle.granit_language.specs.Stretch.{TailIf}
+use Rattle.granit_lexemes.proofs.HereLemmas.{stepped_text}
 use Rattle.granit_lexemes.specs.Here.{Here, mark_of, step}
 use Rattle.granit_lexemes.specs.Lexeme.{Colon, Dash, Lexeme, Question, opener_char}
 use Rattle.granit_lexemes.specs.PlainExtent.{over}
@@ -36,6 +39,7 @@ use Rattle.granit_machine.specs.Laid.{Laid, behind_lexeme, is_adjacent, is_in_fl
 use Rattle.granit_machine.specs.LexemeSort.{ColonSign, DashSign, Placed, QuestionSign}
 use Rattle.granit_machine.specs.PossibleKeys.{key_in, keyed_brackets, outer_key, top_key}
 use Rattle.granit_machine.specs.ReaderState.{ReaderState, sign_lexeme, with_tail}
+use Rattle.granit_reading.proofs.ColumnsLaw.{cols}
 
 -- ---- outside brackets
 
@@ -63,10 +67,6 @@ pub next_parts : {g : List ℕ} → Behind g → (rest : List ℕ) → is_blank_
 unfolding is_blank_or_breakz is_blank is_breakz is_break is_z
 next_parts spaced rest = refl
 next_parts (fed_to c) rest = refl
-
-or_first : (a b : Bool) → a ≡ true → (a || b) ≡ true
-or_first true b e = refl
-or_first false b e = absurd cc
 
 no_marks : {g : List ℕ} → Behind g → (d column : ℕ) (rest : List ℕ) → (d == 0x20) ≡ false → (d == 0x0A) ≡ false
     → ThreeStand d column (0x2D ∷ (g ++ rest)) → ⊥
@@ -103,7 +103,7 @@ colon_begins : {g : List ℕ} (b : Behind g) (flow adjacent : Bool) (column : �
 unfolding is_printable is_break
 colon_begins {g} b flow adjacent column rest =
     begins_with flow adjacent column 0x3A (g ++ rest) ColonSign refl refl refl refl
-    (colon (or_first (is_blank_or_breakz (first (g ++ rest))) _ (next_parts b rest)))
+    (colon (or_left (is_blank_or_breakz (first (g ++ rest))) _ (next_parts b rest)))
 
 -- a sign was passed that stands in a column
 sign_end : (g : List ℕ) (c n : ℕ) (rest : List ℕ) (key : Option PossibleKey) (h : Here)
@@ -129,7 +129,7 @@ colon_flat : is_flat 0x3A ≡ true
 unfolding is_break
 colon_flat = refl
 
-if_widened : (v : Bool) (cs : List OpenColumn) → columns_of (if v then map widened cs else cs) ≡ columns_of cs
+if_widened : (v : Bool) (cs : List OpenColumn) → cols (if v then map widened cs else cs) ≡ cols cs
 if_widened true cs = widened_map cs
 if_widened false cs = refl
 
@@ -149,18 +149,13 @@ no_nul (fed_to c) rest h e n = none (ap (λ (l : List ℕ). first (drop 1 l)) (s
     none : ◌≡◌ {A = ℕ} 0x0A 0x00 → ⊥
     none f = cc
 
--- an opener, and what may stand behind a sign
-opener_no_space : (b : Bracket) → (opener_char b == 0x20) ≡ true → ⊥
-opener_no_space Square e = cc
-opener_no_space Curly e = cc
-
 opener_no_feed : (b : Bracket) → (opener_char b == 0x0A) ≡ true → ⊥
 opener_no_feed Square e = cc
 opener_no_feed Curly e = cc
 
 no_opener : {g : List ℕ} → Behind g → (b : Bracket) (rest more : List ℕ) (c d : ℕ)
     → c ∷ (g ++ rest) ≡ d ∷ opener_char b ∷ more → ⊥
-no_opener spaced b rest more c d e = opener_no_space b (sym (ap (λ (l : List ℕ). first (drop 1 l) == 0x20) e))
+no_opener spaced b rest more c d e = no_space b (sym (ap (λ (l : List ℕ). first (drop 1 l) == 0x20) e))
 no_opener (fed_to n) b rest more c d e = opener_no_feed b (sym (ap (λ (l : List ℕ). first (drop 1 l) == 0x0A) e))
 
 module _ (o : OptionsData) (x : List ℕ) where
@@ -178,7 +173,7 @@ module _ (o : OptionsData) (x : List ℕ) where
       let l = in_front (Placed DashSign) h t.laid in
       let at = a.lies in
       let within = enters_there c ds cs h.place.column at.column enters in
-      let left : columns_of l.columns ≡ up_to h.place.column ds =
+      let left : cols l.columns ≡ up_to h.place.column ds =
       closed_map h.place.column t.laid.brackets t.laid.columns ds a.around a.columns in
       let text = stepped_text h 0x2D (g ++ rest) a.text in
       let end = held_on x h 0x2D (g ++ rest) a.text a.held in
@@ -237,7 +232,7 @@ module _ (o : OptionsData) (x : List ℕ) where
       let l = in_front (Placed QuestionSign) h t.laid in
       let at = a.lies in
       let within = enters_there c ds cs h.place.column at.column enters in
-      let left : columns_of l.columns ≡ up_to h.place.column ds =
+      let left : cols l.columns ≡ up_to h.place.column ds =
       closed_map h.place.column t.laid.brackets t.laid.columns ds a.around a.columns in
       let flow : is_in_flow l ≡ false = outside_flow l.brackets a.around in
       let text = stepped_text h 0x3F (g ++ rest) a.text in
@@ -314,7 +309,7 @@ module _ (o : OptionsData) (x : List ℕ) where
       let l = in_front (Placed ColonSign) h t.laid in
       let at = a.lies in
       let within = enters_there c ds cs h.place.column at.column enters in
-      let left : columns_of l.columns ≡ up_to h.place.column ds =
+      let left : cols l.columns ≡ up_to h.place.column ds =
       closed_map h.place.column t.laid.brackets t.laid.columns ds a.around a.columns in
       let flow : is_in_flow l ≡ false = outside_flow l.brackets a.around in
       let gone : l.key ≡ None = a.fresh in

@@ -4,12 +4,12 @@ use Rattle.std.specs.Prelude.{None, Some}
 use Rattle.granit_base.specs.Place.{Mark, first}
 use Rattle.granit_block_layout.proofs.Ready.{Arrived, InColumn, Ready, Where, fresh_around, lies_column, lies_fresh}
 use Rattle.granit_block_layout.proofs.Ready.{lies_gone, lies_mild, lies_tab}
-use Rattle.granit_canonical.proofs.Calm.{Mild}
+use Rattle.granit_canonical.proofs.Calm.{Mild, no_cut_fits}
 use Rattle.granit_canonical.proofs.Places.{Starts, gap_stops, gap_to, marked, past_all}
 use Rattle.granit_canonical.proofs.Taking.{LexemeRead}
 use Rattle.granit_canonical.specs.Canonical.{spot}
 use Rattle.granit_error.specs.OptionsData.{OptionsData}
-use Rattle.granit_language.specs.Allowed.{CutFits, MayPrefix, TabsFit}
+use Rattle.granit_language.specs.Allowed.{MayPrefix, TabsFit}
 use Rattle.granit_language.specs.Before.{freshened}
 use Rattle.granit_language.specs.Reached.{BeginsAt, GivenAt, NoneOverdue, of_lexeme}
 use Rattle.granit_language.specs.Standing.{in_front_of_lexeme}
@@ -29,12 +29,6 @@ no_tab_fits o l h e tab b = absurd (some_tab (sym e ∙ b.1))
   where
     some_tab : ◌≡◌ {A = Option Mark} None (Some tab) → ⊥
     some_tab f = cc
-
-pub no_cut_fits : (l : Laid) (h : Here) → l.cut ≡ None → CutFits l h
-no_cut_fits l h e cut f = absurd (some_cut (sym e ∙ f))
-  where
-    some_cut : ◌≡◌ {A = Option Mark} None (Some cut) → ⊥
-    some_cut g = cc
 
 pub mild_fits : (o : OptionsData) (s : ReaderState) → Mild s.laid.key → NoneOverdue o s
 mild_fits o s h k e l = h k e

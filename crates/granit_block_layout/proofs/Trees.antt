@@ -12,7 +12,7 @@ use Rattle.granit_block_layout.proofs.Fronts.{block_pair, first_entries, first_p
 use Rattle.granit_block_layout.proofs.Lines.{indent_front}
 use Rattle.granit_block_layout.proofs.Nodes.{Closes, alias_read, empty_read, node_starts, properties_read}
 use Rattle.granit_block_layout.proofs.Nodes.{scalar_read}
-use Rattle.granit_block_layout.proofs.Passing.{Follows, before, collection_in, follows_left}
+use Rattle.granit_block_layout.proofs.Passing.{Follows, collection_in, follows_left}
 use Rattle.granit_block_layout.proofs.Ready.{Begun, OnLine, Ready, bound, fed_to}
 use Rattle.granit_block_layout.proofs.Telling.{pairs_tell, start_tells, trees_tell}
 use Rattle.granit_block_layout.specs.Alike.{kinds_of}
@@ -29,7 +29,7 @@ use Rattle.granit_language.specs.Node.{AfterEntry, AfterPair, Entries, Entry, Ju
 use Rattle.granit_language.specs.Node.{TreeProperties}
 use Rattle.granit_language.specs.Placed.{EntriesPlaced, PairsPlaced, pair_front}
 use Rattle.granit_language.specs.Room.{BlockIn}
-use Rattle.granit_language.specs.Telling.{events_told}
+use Rattle.granit_language.specs.Telling.{events_told, one_less}
 use Rattle.granit_language.specs.Terminal.{Dash, Terminal, terminal, text_start}
 use Rattle.granit_language.specs.TreeEvents.{MappingEnds, SequenceEnds, TreeEvent, entries_events, node_events}
 use Rattle.granit_language.specs.TreeEvents.{pair_events, pairs_events, pointed}
@@ -52,7 +52,7 @@ pub record EntriesRead (o : OptionsData) (x : List ℕ) (cs : List ℕ) (c reach
   pub left : List ℕ
   pub entries : Entries
   pub passage : Passage o s a (past_trees ts a) (spell_entries entries) after
-  pub ready : Ready x next [] left (Begun (before reach)) after
+  pub ready : Ready x next [] left (Begun (one_less reach)) after
   pub closes : Closes reach left (c ∷ cs)
   pub placed : (y : Terminal) → Follows x reach next y → EntriesPlaced entries false (suc c) y
   pub within : (v : Bool) → entries_within o.block_nesting_limit entries (suc (length cs)) v ≡ v
@@ -67,7 +67,7 @@ pub record PairsRead (o : OptionsData) (x : List ℕ) (cs : List ℕ) (c reach :
   pub left : List ℕ
   pub pairs : Pairs
   pub passage : Passage o s a (past_pairs ps a) (spell_pairs pairs) after
-  pub ready : Ready x next [] left (Begun (before reach)) after
+  pub ready : Ready x next [] left (Begun (one_less reach)) after
   pub closes : Closes reach left (c ∷ cs)
   pub placed : (y : Terminal) → Follows x reach next y → PairsPlaced pairs (suc c) y
   pub within : (v : Bool) → pairs_within o.block_nesting_limit pairs (suc (length cs)) v ≡ v
@@ -170,7 +170,7 @@ module _ (o : OptionsData) (x : List ℕ) where
     entries_read : (ts : PlainTrees) (known : List (List ℕ)) → CanSpellTrees ts → TreesFit ts known
         → no_trees ts ≡ false
         → (cs ds : List ℕ) (c reach : ℕ) (next rest : List ℕ) (s : ReaderState) (a : Anchors)
-        → Enters o.block_nesting_limit c ds cs → reach ≤ suc c → Starts next → rest ≡ indent (before reach) [] ++ next
+        → Enters o.block_nesting_limit c ds cs → reach ≤ suc c → Starts next → rest ≡ indent (one_less reach) [] ++ next
         → Knows known a → trees_depth ts + suc (length cs) ≤ o.block_nesting_limit
         → trees_depth ts ≤ o.flow_nesting_limit
         → Ready x (first_entries c ts rest) [] ds (Begun c) s → EntriesRead o x cs c reach next s ts a
@@ -226,7 +226,7 @@ module _ (o : OptionsData) (x : List ℕ) where
     pairs_read : (ps : PlainPairs) (known : List (List ℕ)) → CanSpellPairs ps → PairsFit ps known
         → no_pairs ps ≡ false
         → (cs ds : List ℕ) (c reach : ℕ) (next rest : List ℕ) (s : ReaderState) (a : Anchors)
-        → Enters o.block_nesting_limit c ds cs → reach ≤ suc c → Starts next → rest ≡ indent (before reach) [] ++ next
+        → Enters o.block_nesting_limit c ds cs → reach ≤ suc c → Starts next → rest ≡ indent (one_less reach) [] ++ next
         → Knows known a → pairs_depth ps + suc (length cs) ≤ o.block_nesting_limit
         → pairs_depth ps ≤ o.flow_nesting_limit
         → Ready x (first_pairs c ps rest) [] ds (Begun c) s → PairsRead o x cs c reach next s ps a

@@ -1,5 +1,5 @@
 -- What has a cause is refused with it.
-use Rattle.std.proofs.Common.{◌≡◌, ℕ, zero, suc, ◌==◌, Bool, true, false, cond, not, ◌&&◌, List, [], ◌∷◌, ◌++◌, length}
+use Rattle.std.proofs.Common.{◌≡◌, ℕ, zero, suc, ◌==◌, Bool, true, false, cond, not, ◌&&◌, List, [], ◌∷◌, ◌++◌}
 use Rattle.std.proofs.Common.{Option, Some, None, Result, Ok, Err, refl, sym, ap, ap₂, ◌∙◌, arith}
 use Rattle.std.specs.Prelude.{is_none, nat_lt}
 use Rattle.std.proofs.lemmas.Bool.Decides.{nat_tests}
@@ -8,17 +8,17 @@ use Rattle.granit_base.specs.Place.{Mark, first}
 use Rattle.granit_error.specs.FaultKind.{FaultKind, ZeroBlockScalarIndent, InvalidBlockScalarHeader}
 use Rattle.granit_error.specs.FaultKind.{TabAtBlockScalarStart, InvalidBlockScalarIndent, CommentNotSeparated}
 use Rattle.granit_error.specs.FaultKind.{UnexpectedCharacter}
-use Rattle.granit_lexemes.specs.Comment.{CommentRead, comment, is_comment_char, IsSpoiled, Spoils, ReadsComment}
+use Rattle.granit_lexemes.proofs.CharTests.{feed_prints}
+use Rattle.granit_lexemes.specs.Comment.{CommentRead, comment, Spoils}
 use Rattle.granit_lexemes.specs.Here.{Here, text_len, next_char, mark_of, step, mid_line}
-use Rattle.granit_lexemes.specs.Moves.{steps}
 use Rattle.granit_lexemes.specs.Outcome.{Fault, fault_at, ◌>>=◌}
 use Rattle.granit_lexemes.specs.Pieces.{with_front}
 use Rattle.granit_lexemes.specs.PlainExtent.{over}
 use Rattle.granit_lexemes.specs.Basics.{unprintable, count_up_to, text_up_to}
 use Rattle.granit_lexemes.proofs.PieceLemmas.{pieces_done, pieces_more, pieces_fails}
 use Rattle.granit_lexemes.specs.QuotedExtent.{BlanksBehind}
-use Rattle.granit_scalars.proofs.Comments.{comment_reads, same_run, no_comment_strange, not_both}
-use Rattle.granit_scalars.proofs.Nameless.{comment_none}
+use Rattle.granit_scalars.proofs.CommentCauses.{comment_wrong}
+use Rattle.granit_scalars.proofs.Comments.{comment_reads, with_note}
 use Rattle.granit_scalars.proofs.QuotedEscapes.{over_text}
 use Rattle.granit_lexemes.specs.BlockHeader.{Chomping, Strip, Clip, Keep, BlockHeader, chomping_of, header_sign}
 use Rattle.granit_lexemes.specs.BlockHeader.{block_header}
@@ -34,7 +34,7 @@ use Rattle.granit_lexemes.specs.HeaderExtent.{no_indicators, HeaderStands, Heade
 use Rattle.granit_lexemes.specs.HeaderExtent.{LineEnds}
 use Rattle.granit_lexemes.specs.LinesExtent.{Empties, no_empty_line, empty_line, BlockLine, IsLine, ContentLines}
 use Rattle.granit_lexemes.specs.LinesExtent.{no_line, more_lines, is_clear}
-use Rattle.granit_blocks.proofs.BlockHeads.{sign_on, header_sign_is, sign_is, header_is, with_noted, tail_on, tail_past}
+use Rattle.granit_blocks.proofs.BlockHeads.{sign_on, header_sign_is, sign_is, header_is, tail_on, tail_past}
 use Rattle.granit_blocks.proofs.BlockHeads.{some_between, tail_touched, tail_is}
 use Rattle.granit_blocks.proofs.BlockLaw.{whole_of, ended_on, behind_block_is, then_behind, content_on}
 use Rattle.granit_blocks.proofs.BlockLaw.{content_lines_is, then_content, then_lines, lines_on, block_lines_is, body_on}
@@ -101,31 +101,6 @@ by_lines literal block h {header} heads tails ends f e = by_body literal block h
 
 -- ---- in a comment
 
-spoiled_once : (x cs ds : List ℕ) (c d : ℕ) → IsSpoiled x cs c → IsSpoiled x ds d → (cs ≡ ds) × (c ≡ d)
-spoiled_once x cs ds c d p q =
-    let joined : cs ++ c ∷ p.behind ≡ ds ++ d ∷ q.behind = let e = sym p.spelled ∙ q.spelled in cc in
-    let s = same_run is_comment_char cs ds (c ∷ p.behind) (d ∷ q.behind) joined p.text q.text
-    (no_comment_strange c p.unprintable) (no_comment_strange d q.unprintable) in
-    (s.0, ap first s.1)
-
-spoils_once : (h : Here) {kind other : FaultKind} {m n : Mark} → Spoils h kind m → Spoils h other n
-    → (kind ≡ other) × (m ≡ n)
-spoils_once h p q =
-    let s = spoiled_once h.unread.text p.front q.front p.character q.character p.spelled q.spelled in (
-      p.names ∙ ap UnexpectedCharacter s.1 ∙ sym q.names,
-      p.marks
-          ∙ ap (λ (cs : List ℕ). mark_of (steps (suc (length cs)) h)) s.0 ∙ sym q.marks,
-    )
-
-pub comment_wrong : (h : Here) {kind : FaultKind} {m : Mark} → Spoils h kind m → (r : Result (CommentRead × Here) Fault)
-    → comment h ≡ r → ReadsComment h r → r ≡ Err (fault_at kind m)
-comment_wrong h p (Ok (c, after)) e read = absurd
-    (not_both h.unread.text c.text.characters p.front p.character read.spelled p.spelled)
-comment_wrong h {kind} {m} p (Err f) e read =
-    let s = spoils_once h read p in
-    ap (λ (sources : List _). Err (record f { sources = sources })) ((comment_none h).none f e)
-    ∙ ap₂ (λ (k : FaultKind) (n : Mark). Err (fault_at k n)) s.0 s.1
-
 pub in_comment_fails : (g : Here) {kind : FaultKind} {m : Mark} (b : ℕ) (blanks rest : List ℕ)
     → BlanksBehind g (b ∷ blanks) rest → Spoils (over (b ∷ blanks) g) kind m → tail_at g ≡ Err (fault_at kind m)
 in_comment_fails g b blanks rest p s =
@@ -135,7 +110,7 @@ in_comment_fails g b blanks rest p s =
     tail_past g (b ∷ blanks) rest p
     ∙ ap (λ (k : ℕ). tail_on c (k == 0x23) (count_up_to g c == 0)) hash
     ∙ ap (tail_on c true) (some_between g b blanks rest p)
-    ∙ ap with_noted (comment_wrong c s (comment c) refl (comment_reads c (ap first s.spelled.spelled)))
+    ∙ ap with_note (comment_wrong c s (comment c) refl (comment_reads c (ap first s.spelled.spelled)))
 
 -- ---- behind the header's line
 
@@ -157,7 +132,7 @@ empties_or : {column : ℕ} {h after : Here} {k : ℕ} → Empties column h afte
 empties_or (no_empty_line s n) = spaces_or s
 empties_or (empty_line {g = g} {i = i} s b more) = clears (spaces_clear s (break_clear g (breaks_first g i b)))
 
-lines_refused : (literal : Bool) (header : BlockHeader) (broken : Bool) (block : Option ℕ) (start : Mark) (j : Here)
+pub lines_refused : (literal : Bool) (header : BlockHeader) (broken : Bool) (block : Option ℕ) (start : Mark) (j : Here)
     → is_clear j ≡ false → block_lines literal header broken block start j
     ≡ Err (fault_at (UnexpectedCharacter (next_char j)) (mark_of j))
 lines_refused literal header broken block start j c = block_lines_is literal header broken block start j
@@ -310,13 +285,9 @@ then_refused chomping column shown r after c (stops_there text last e y) =
     ∙ ap (λ (v : Bool). ended_on column shown (whole_of chomping text last) after v
     (unprintable (whole_of chomping text last))) c
 
-lf_printable : is_printable 0x0A ≡ true
-unfolding is_printable is_break
-lf_printable = refl
-
 feeds_printable : (k : ℕ) → unprintable (line_feeds k) ≡ None
 feeds_printable zero = refl
-feeds_printable (suc k) = ap (λ (b : Bool). cond (not b) (Some 0x0A) (unprintable (line_feeds k))) lf_printable
+feeds_printable (suc k) = ap (λ (b : Bool). cond (not b) (Some 0x0A) (unprintable (line_feeds k))) feed_prints
     ∙ feeds_printable k
 
 kept_printable : (chomping : Chomping) (k : ℕ) → unprintable (kept_lines chomping k) ≡ None

@@ -2,12 +2,13 @@
 use Rattle.std.proofs.Common.{◌≡◌, ℕ, ◌-◌, ◌==◌, Bool, true, false, ◌&&◌, ◌||◌, not, List, [], ◌∷◌, ◌++◌, length}
 use Rattle.std.proofs.Common.{Option, Some, None, Result, Ok, Err, refl, sym, ap, ap₂, ◌∙◌, subst, arith}
 use Rattle.std.specs.Prelude.{if◌then◌else◌, is_none}
-use Rattle.std.proofs.lemmas.Bool.{and_parts}
+use Rattle.std.proofs.lemmas.Bool.{and_parts, eqb-true}
 use Rattle.std.proofs.lemmas.Bool.Decides.{nat_tests}
 use Rattle.std.proofs.lemmas.List.{length-append}
 use Rattle.granit_base.specs.Classes.{is_blank, is_digit, is_within}
 use Rattle.granit_base.specs.Place.{Mark, first}
 use Rattle.granit_error.specs.FaultKind.{FaultKind, ZeroBlockScalarIndent, CommentNotSeparated}
+use Rattle.granit_lexemes.proofs.CharTests.{hash_no_blank}
 use Rattle.granit_lexemes.specs.Comment.{CommentRead, comment, StandsComment, Spoils, ReadsComment}
 use Rattle.granit_lexemes.specs.Gap.{Each}
 use Rattle.granit_lexemes.specs.Here.{Here, next_char, mark_of, step, past}
@@ -15,7 +16,7 @@ use Rattle.granit_lexemes.specs.Outcome.{Fault, fault_at, ◌>>=◌}
 use Rattle.granit_lexemes.specs.PlainExtent.{over, starts_comment}
 use Rattle.granit_lexemes.specs.Basics.{fails_at, count_up_to}
 use Rattle.granit_lexemes.specs.QuotedExtent.{BlanksBehind}
-use Rattle.granit_scalars.proofs.Comments.{comment_reads, comment_answered}
+use Rattle.granit_scalars.proofs.Comments.{comment_reads, comment_answered, with_note}
 use Rattle.granit_scalars.proofs.Nameless.{comment_none}
 use Rattle.granit_scalars.proofs.QuotedEscapes.{over_text}
 use Rattle.granit_lexemes.specs.BlockHeader.{Chomping, Strip, Keep, BlockHeader, header_sign, block_header}
@@ -51,9 +52,6 @@ none_is : {A : Type 0} (o : Option A) → is_none o ≡ true → o ≡ None
 none_is None y = refl
 none_is (Some a) y = absurd cc
 
-same_number : (c d : ℕ) → (c == d) ≡ true → c ≡ d
-same_number c d y = grind (arith, nat_tests)
-
 no_sign_left : (p m n : Bool) → (p && n) ≡ false → (m && n) ≡ false → (n && (p || m)) ≡ false
 no_sign_left p m false e f = refl
 no_sign_left true m true e f = absurd cc
@@ -75,11 +73,11 @@ sign_reads_on : (start : Mark) (b : BlockHeader) (h : Here) → (p m d z : Bool)
     → (is_digit (next_char h) && is_none b.digit) ≡ d → (next_char h == 0x30) ≡ z
     → SignReads start b h (sign_on start b h p m d z)
 sign_reads_on start b h true m d z e f g i = let x = and_parts (next_char h == 0x2B) (is_none b.chomping)
-    e in takes_sign Keep (none_is b.chomping x.1) (plus (same_number (next_char h) 0x2B x.0))
+    e in takes_sign Keep (none_is b.chomping x.1) (plus (eqb-true (next_char h) 0x2B x.0))
 sign_reads_on start b h false true d z e f g i = let x = and_parts (next_char h == 0x2D) (is_none b.chomping)
-    f in takes_sign Strip (none_is b.chomping x.1) (minus (same_number (next_char h) 0x2D x.0))
+    f in takes_sign Strip (none_is b.chomping x.1) (minus (eqb-true (next_char h) 0x2D x.0))
 sign_reads_on start b h false false true true e f g i = let x = and_parts (is_digit (next_char h)) (is_none b.digit)
-    g in (refl, none_is b.digit x.1, same_number (next_char h) 0x30 i)
+    g in (refl, none_is b.digit x.1, eqb-true (next_char h) 0x30 i)
 sign_reads_on start b h false false true false e f g i = let x = and_parts (is_digit (next_char h)) (is_none b.digit)
     g in takes_digit (none_is b.digit x.1) (one_to_nine (next_char h) x.0 i)
 sign_reads_on start b h false false false z e f g i = takes_none
@@ -190,14 +188,11 @@ header_is h header after p =
 
 -- ---- the tail
 
-abbrev pub with_noted : Result (CommentRead × Here) Fault → Result (Option CommentRead × Here) Fault
-with_noted r = r >>= λ x. Ok (Some x.0, x.1)
-
 abbrev pub tail_on : Here → (hash near : Bool) → Result (Option CommentRead × Here) Fault
 tail_on g hash near =
     if not hash then Ok (None, g)
     else if near then fails_at CommentNotSeparated (mark_of g)
-    else with_noted (comment g)
+    else with_note (comment g)
 
 pub tail_at_is : (h : Here) → tail_at h ≡ tail_on (past is_blank h) (next_char (past is_blank h) == 0x23)
     (count_up_to h (past is_blank h) == 0)
@@ -215,7 +210,7 @@ TailReads h (Err f) = TailWrong h f.kind f.mark × (f.sources ≡ [])
 
 commented_reads : (h g : Here) (b : ℕ) (blanks : List ℕ) → BlanksBehind h (b ∷ blanks) g.unread.text
     → g ≡ over (b ∷ blanks) h → (next_char g == 0x23) ≡ true → (r : Result (CommentRead × Here) Fault) → comment g ≡ r
-    → ReadsComment g r → TailReads h (with_noted r)
+    → ReadsComment g r → TailReads h (with_note r)
 commented_reads h g b blanks p lands y (Ok (c, after)) e read = commented b blanks g.unread.text c p y
     (subst (λ (i : Here). StandsComment i c after) lands read)
 commented_reads h g b blanks p lands y (Err f) e read = (
@@ -238,7 +233,7 @@ hash_reads h g cs s each n false near y e = uncommented cs g.unread.text
     (record { whole = s.text; each = each; all = n }) y s.lands
 hash_reads h g [] s each n true true y e = (
   subst (λ (i : Here). TailWrong h CommentNotSeparated (mark_of i))
-      (sym s.lands) (touches (ap first s.text ∙ same_number (next_char g) 0x23 y)),
+      (sym s.lands) (touches (ap first s.text ∙ eqb-true (next_char g) 0x23 y)),
   refl,
 )
 hash_reads h g (b ∷ blanks) s each n true true y e = absurd
@@ -246,7 +241,7 @@ hash_reads h g (b ∷ blanks) s each n true true y e = absurd
 hash_reads h g [] s each n true false y e = absurd (let k = count_of h [] g s in grind (arith, nat_tests))
 hash_reads h g (b ∷ blanks) s each n true false y e = commented_reads h g b blanks
     (record { whole = s.text; each = each; all = n }) s.lands y (comment g) refl
-    (comment_reads g (same_number (next_char g) 0x23 y))
+    (comment_reads g (eqb-true (next_char g) 0x23 y))
 
 tail_of : (h g : Here) → Past is_blank h g → TailReads h (tail_on g (next_char g == 0x23) (count_up_to h g == 0))
 tail_of h g p = hash_reads h g p.characters p.spans p.each p.stops (next_char g == 0x23) (count_up_to h g == 0) refl
@@ -279,10 +274,6 @@ tail_past h blanks rest p =
     (ap (λ (t : List ℕ). is_blank (first t)) there ∙ p.all))
     ∙ ap (λ (t : List ℕ). tail_on (over blanks h) (first t == 0x23) (count_up_to h (over blanks h) == 0)) there
 
-hash_no_blank : (c : ℕ) → c ≡ 0x23 → is_blank c ≡ false
-unfolding is_blank
-hash_no_blank c e = grind (arith, nat_tests)
-
 -- a `#` directly behind the header
 pub tail_touched : (h : Here) → next_char h ≡ 0x23 → tail_at h ≡ Err (fault_at CommentNotSeparated (mark_of h))
 tail_touched h e =
@@ -296,7 +287,7 @@ pub tail_is : (h : Here) (noted : Option CommentRead) (after : Here) → LexemeT
 tail_is h noted after (commented b blanks rest c p y stands) =
     tail_past h (b ∷ blanks) rest p
     ∙ ap₂ (tail_on (over (b ∷ blanks) h)) y (some_between h b blanks rest p)
-    ∙ ap with_noted (comment_answered (over (b ∷ blanks) h) c after stands)
+    ∙ ap with_note (comment_answered (over (b ∷ blanks) h) c after stands)
 tail_is h noted after (uncommented blanks rest p n lands) =
     tail_past h blanks rest p
     ∙ ap (λ (hash : Bool). tail_on (over blanks h) hash (count_up_to h (over blanks h) == 0)) n

@@ -1,8 +1,10 @@
 -- The plain function answers the block scalar that stands there, or refuses it with its cause.
 use Rattle.std.proofs.Common.{◌≡◌, ℕ, zero, suc, ◌==◌, Bool, true, false, ◌&&◌, List, [], ◌∷◌, ◌++◌, length, Option}
 use Rattle.std.proofs.Common.{Some, None, Result, Ok, Err, refl, sym, ap, ap₂, ◌∙◌, subst, arith}
+use Rattle.std.proofs.lemmas.Bool.{eqb-true}
 use Rattle.std.specs.Prelude.{if◌then◌else◌, nat_lt}
 use Rattle.std.proofs.lemmas.Bool.Decides.{nat_tests}
+use Rattle.std.proofs.lemmas.List.{nil_from_length}
 use Rattle.granit_base.specs.Classes.{is_break, is_printable}
 use Rattle.granit_base.specs.Place.{Mark}
 use Rattle.granit_error.specs.FaultKind.{ZeroBlockScalarIndent, InvalidBlockScalarHeader, TabAtBlockScalarStart}
@@ -35,7 +37,6 @@ use Rattle.granit_blocks.proofs.Leading.{EmptyReads, empty_reads, empties_are, C
 use Rattle.granit_blocks.proofs.LineTurns.{state_at, printable_clear, break_clear, end_clear, end_no_break}
 use Rattle.granit_blocks.proofs.LineTurns.{empties_no_break}
 use Rattle.granit_blocks.proofs.Moving.{breaks_of, breaks_is, breaks_first}
-use Rattle.granit_scalars.proofs.QuotedReads.{no_text}
 
 -- ---- texts without content
 
@@ -133,9 +134,6 @@ pub block_body_is : (literal : Bool) (header : BlockHeader) (block : Option ℕ)
 unfolding block_body
 block_body_is literal header block start h = refl
 
-same_number : (c d : ℕ) → (c == d) ≡ true → c ≡ d
-same_number c d y = grind (arith, nat_tests)
-
 -- ---- what is read stands there
 
 abbrev BodyReads : Bool → Option ℕ → Here → Option CommentRead → Result (BlockRead × Here) Fault → Type 0
@@ -202,7 +200,7 @@ module _ (literal : Bool) (block : Option ℕ) (h : Here) (header : BlockHeader)
         place = place;
         front = front;
         body =
-            without_content (no_text place.unread.text m);
+            without_content (nil_from_length place.unread.text (eqb-true (length place.unread.text) 0 m));
       })
   content_reads_on true false true c m b = (wrong_column front c m b, refl)
   content_reads_on true false false c m b = behind_reads m b (lines_from literal column (state_at place k None false))
@@ -250,7 +248,7 @@ module _ (literal : Bool) (block : Option ℕ) (h : Here) (header : BlockHeader)
       → (next_char j == 0x09) ≡ tab → BodyReads literal block h noted
       (lines_on literal header broken block (mark_of h) j clear tab)
   lines_on_read broken j ends false tab c t = (first_character heads tails ends c, refl)
-  lines_on_read broken j ends true true c t = (first_tab heads tails ends (same_number (next_char j) 0x09 t), refl)
+  lines_on_read broken j ends true true c t = (first_tab heads tails ends (eqb-true (next_char j) 0x09 t), refl)
   lines_on_read broken j ends true false c t = columns_read broken j ends t (content_column block header.digit j)
       (column_reads block header.digit j)
 
@@ -264,7 +262,8 @@ module _ (literal : Bool) (block : Option ℕ) (h : Here) (header : BlockHeader)
       → BodyReads literal block h noted (body_on literal header block (mark_of h) i clear brk met)
   body_on_read false brk met c b m = (behind_header heads tails c, refl)
   body_on_read true true met c b m = block_lines_read true (past_break i) (line_broken (breaks_of i b))
-  body_on_read true false true c b m = block_lines_read false i (line_unbroken (no_text i.unread.text m))
+  body_on_read true false true c b m =
+      block_lines_read false i (line_unbroken (nil_from_length i.unread.text (eqb-true (length i.unread.text) 0 m)))
   body_on_read true false false c b m = (other_content heads tails c m b, refl)
 
   pub body_reads : BodyReads literal block h noted (block_body literal header block (mark_of h) i)

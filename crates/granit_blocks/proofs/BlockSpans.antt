@@ -2,6 +2,7 @@
 use Rattle.std.proofs.Common.{◌≡◌, ℕ, ◌==◌, Bool, true, false, List, [], ◌∷◌, ◌++◌, length, Option, refl, sym, ap, ◌∙◌}
 use Rattle.std.proofs.Common.{subst, append_assoc}
 use Rattle.granit_base.specs.Place.{Mark}
+use Rattle.granit_lexemes.proofs.HereLemmas.{stays_at_end}
 use Rattle.granit_lexemes.specs.Comment.{CommentRead, StandsComment}
 use Rattle.granit_lexemes.specs.Here.{Here, mid_line, step}
 use Rattle.granit_lexemes.specs.Moves.{steps}
@@ -66,12 +67,8 @@ over_reaches cs t h e = (
   },
 )
 
-nothing_left : (h : Here) → h.unread.text ≡ [] → step h ≡ h
-unfolding step
-nothing_left h e = rw e refl
-
 step_by : (t : List ℕ) (h : Here) → h.unread.text ≡ t → Reaches h (step h)
-step_by [] h e = subst (λ (g : Here). Reaches h g) (sym (nothing_left h e)) (stays h)
+step_by [] h e = subst (λ (g : Here). Reaches h g) (sym (stays_at_end h e)) (stays h)
 step_by (c ∷ t) h e = over_reaches (c ∷ []) t h e
 
 step_reaches : (h : Here) → Reaches h (step h)

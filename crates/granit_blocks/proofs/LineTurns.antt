@@ -2,11 +2,13 @@
 use Rattle.std.proofs.Common.{◌≡◌, ℕ, zero, suc, ◌<◌, ◌≤◌, ◌==◌, Bool, true, false, not, ◌&&◌, ◌||◌, List, [], ◌∷◌}
 use Rattle.std.proofs.Common.{◌++◌, length, Option, Some, None, Result, Ok, Err, refl, sym, ap, ap₂, ◌∙◌, subst, arith}
 use Rattle.std.specs.Prelude.{if◌then◌else◌}
-use Rattle.std.proofs.lemmas.Bool.{cond-false}
+use Rattle.std.proofs.lemmas.Bool.{cond-false, or_left, or_right, not-false, eqb-true}
 use Rattle.std.proofs.lemmas.Bool.Decides.{nat_tests}
+use Rattle.std.proofs.lemmas.List.{nil_from_length}
 use Rattle.granit_base.specs.Classes.{is_blank, is_break, is_breakz, is_z, is_printable, is_non_breakz}
 use Rattle.granit_base.specs.Place.{first}
 use Rattle.granit_error.specs.FaultKind.{UnexpectedCharacter}
+use Rattle.granit_lexemes.proofs.CharTests.{break_prints}
 use Rattle.granit_lexemes.specs.Here.{Here, text_len, next_char, mark_of, mid_line, past}
 use Rattle.granit_lexemes.specs.Outcome.{Fault, fault_at, ◌>>=◌}
 use Rattle.granit_lexemes.specs.Pieces.{Shortens}
@@ -22,7 +24,6 @@ use Rattle.granit_lexemes.specs.LinesExtent.{is_outside_block, is_clear}
 use Rattle.granit_blocks.proofs.Moving.{Past, past_reads, past_is, text_of, crosses_len, breaks_of, breaks_is}
 use Rattle.granit_blocks.proofs.Moving.{breaks_first, break_shorter, spaces_len}
 use Rattle.granit_blocks.proofs.Leading.{EmptyReads, empty_reads, empties_are}
-use Rattle.granit_scalars.proofs.QuotedReads.{no_text}
 
 pub no_block_nul : is_non_breakz 0 ≡ false
 unfolding is_breakz is_break is_z
@@ -39,19 +40,11 @@ has_text test nul h y = let s = seen test h nul y in some_text h.unread.text (ne
 pub end_no_break : (h : Here) → h.unread.text ≡ [] → is_break (next_char h) ≡ false
 end_no_break h e = ap (λ (l : List ℕ). is_break (first l)) e ∙ is_break_nul
 
-break_printable : (c : ℕ) → is_break c ≡ true → is_printable c ≡ true
-unfolding is_break is_printable
-break_printable c y = grind (arith, nat_tests)
-
-or_true : (a b : Bool) → b ≡ true → (a || b) ≡ true
-or_true true b y = refl
-or_true false b y = y
-
 pub printable_clear : (h : Here) → is_printable (next_char h) ≡ true → is_clear h ≡ true
-printable_clear h y = or_true (text_len h == 0) (is_printable (next_char h)) y
+printable_clear h y = or_right (text_len h == 0) (is_printable (next_char h)) y
 
 pub break_clear : (h : Here) → is_break (next_char h) ≡ true → is_clear h ≡ true
-break_clear h y = printable_clear h (break_printable (next_char h) y)
+break_clear h y = printable_clear h (break_prints (next_char h) y)
 
 pub end_clear : (h : Here) → h.unread.text ≡ [] → is_clear h ≡ true
 end_clear h e = ap (λ (l : List ℕ). length l == 0 || is_printable (first l)) e
@@ -138,14 +131,6 @@ both_clear false b n y = y
 pub either_no : (a b : Bool) → (a || b) ≡ false → (a ≡ false) × (b ≡ false)
 either_no true b e = absurd cc
 either_no false b e = (refl, e)
-
-or_left : (a b : Bool) → a ≡ true → (a || b) ≡ true
-or_left true b y = refl
-or_left false b y = absurd cc
-
-not_not : (b : Bool) → not b ≡ false → b ≡ true
-not_not true e = refl
-not_not false e = absurd cc
 
 line_char : (c : ℕ) → is_printable c ≡ true → is_break c ≡ false → is_non_breakz c ≡ true
 unfolding is_breakz is_break is_z is_printable
@@ -248,7 +233,7 @@ turned_line : (literal : Bool) (column : ℕ) (s : BlockState) (cs : List ℕ) (
     → (met clear : Bool) → (text_len g == 0) ≡ met → is_clear g ≡ clear
     → BlockTurned literal column s (line_on literal column s cs (mid_line g) met clear)
 turned_line literal column s cs g n le z l true clear e c = takes_line cs g (mid_line g) zero false n le l
-    (by_end (no_text g.unread.text e)) e
+    (by_end (nil_from_length g.unread.text (eqb-true (length g.unread.text) 0 e))) e
 turned_line literal column s cs g n le z l false true e c = turned_break literal column s cs g n le l
     (breaks_of (mid_line g) (line_ends g z e c)) (empty_lines column (past_break (mid_line g)))
     (empty_reads column (past_break (mid_line g)))
@@ -259,12 +244,12 @@ turned_on : (literal : Bool) (column : ℕ) (s : BlockState) → (out clear mark
     → BlockTurned literal column s (turn_on literal column s out clear mark)
 turned_on literal column s true clear mark o c m = stops (or_left (is_out column s.here) (is_mark column s.here) o)
 turned_on literal column s false false mark o c m = at_strange c
-turned_on literal column s false true true o c m = stops (or_true (is_out column s.here) (is_mark column s.here) m)
+turned_on literal column s false true true o c m = stops (or_right (is_out column s.here) (is_mark column s.here) m)
 turned_on literal column s false true false o c m =
     let g = past is_non_breakz s.here in
     let p = past_reads is_non_breakz no_block_nul s.here in
     let d = either_no (text_len s.here == 0) (not (s.here.place.column == column)) o in
-    let at = not_not (s.here.place.column == column) d.1 in
+    let at = not-false (s.here.place.column == column) d.1 in
     subst (BlockTurned literal column s) (sym
     (line_up_to_is literal column s (mid_line g)
     ∙ ap (λ (cs : List ℕ). line_on literal column s cs (mid_line g) (text_len g == 0) (is_clear g))

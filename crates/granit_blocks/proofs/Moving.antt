@@ -15,8 +15,7 @@ use Rattle.granit_lexemes.specs.BlockHeader.{is_space}
 use Rattle.granit_lexemes.specs.BlockScalar.{over_spaces, indented}
 use Rattle.granit_lexemes.specs.BlockMoves.{Crosses, Breaks, AllSpaces, no_space, space, Spaces, at_column}
 use Rattle.granit_lexemes.specs.BlockMoves.{no_space_left, space_left}
-use Rattle.granit_lexemes.proofs.HereLemmas.{past_goes, past_stops, step_len}
-use Rattle.granit_scalars.proofs.QuotedEscapes.{text_behind}
+use Rattle.granit_lexemes.proofs.HereLemmas.{past_goes, past_stops, step_len, stepped_text}
 use Rattle.granit_scalars.proofs.QuotedKept.{one_broken}
 use Rattle.granit_scalars.proofs.Stepping.{seen, column_on, broken}
 use Rattle.granit_scalars.proofs.QuotedGaps.{break_first, past_one}
@@ -40,7 +39,7 @@ past_if test h nul c t e p true y =
     subst (λ (g : Here). Past test h g) (past_goes test h nul next) (record {
       characters = c ∷ p.characters;
       spans = record {
-        text = e ∙ ap (λ (l : List ℕ). c ∷ l) (sym (text_behind h c t e) ∙ p.spans.text);
+        text = e ∙ ap (λ (l : List ℕ). c ∷ l) (sym (stepped_text h c t e) ∙ p.spans.text);
         lands =
             p.spans.lands;
       };
@@ -52,7 +51,7 @@ past_if test h nul c t e p false y = stays test h (ap (λ (l : List ℕ). test (
 past_by : (test : ℕ → Bool) → test 0 ≡ false → (text : List ℕ) (h : Here) → h.unread.text ≡ text
     → Past test h (past test h)
 past_by test nul [] h e = stays test h (ap (λ (l : List ℕ). test (first l)) e ∙ nul)
-past_by test nul (c ∷ t) h e = past_if test h nul c t e (past_by test nul t (step h) (text_behind h c t e)) (test c)
+past_by test nul (c ∷ t) h e = past_if test h nul c t e (past_by test nul t (step h) (stepped_text h c t e)) (test c)
     refl
 
 pub past_reads : (test : ℕ → Bool) → test 0 ≡ false → (h : Here) → Past test h (past test h)
@@ -64,7 +63,7 @@ past_is test nul [] h after s y n = past_stops test h (ap (λ (l : List ℕ). te
 past_is test nul (c ∷ cs) h after s y n =
     sym (past_goes test h nul (ap (λ (l : List ℕ). test (first l)) s.text ∙ y.0))
     ∙ past_is test nul cs (step h) after (record {
-      text = text_behind h c (cs ++ after.unread.text) s.text;
+      text = stepped_text h c (cs ++ after.unread.text) s.text;
       lands =
           s.lands;
     }) y.1 n
@@ -111,7 +110,7 @@ all_spaces_by : (text : List ℕ) (h : Here) → h.unread.text ≡ text → AllS
 all_spaces_by [] h e = let n : is_space (next_char h)
     ≡ false = ap (λ (l : List ℕ). is_space (first l)) e in subst (λ (g : Here). AllSpaces h g)
     (sym (past_stops is_space h n)) (no_space n)
-all_spaces_by (c ∷ t) h e = all_spaces_if h (all_spaces_by t (step h) (text_behind h c t e)) (is_space (next_char h))
+all_spaces_by (c ∷ t) h e = all_spaces_if h (all_spaces_by t (step h) (stepped_text h c t e)) (is_space (next_char h))
     refl
 
 pub all_spaces : (h : Here) → AllSpaces h (past is_space h)

@@ -1,6 +1,7 @@
 -- What is passed on the way to a boundary.
 use Rattle.std.proofs.Common.{◌≡◌, ℕ, zero, suc, ◌+◌, ◌<◌, ◌≤◌, ◌==◌, ◌&&◌, ◌||◌, Bool, true, false, List, [], ◌∷◌}
 use Rattle.std.proofs.Common.{length, drop, Option, Some, None, ◌⊎◌, inl, inr, refl, sym, ap, ap₂, subst, ◌∙◌, arith}
+use Rattle.std.proofs.lemmas.Bool.{and_parts}
 use Rattle.std.specs.Prelude.{if◌then◌else◌, slice_index}
 use Rattle.std.proofs.lemmas.Bool.Decides.{nat_tests}
 use Rattle.granit_base.specs.Classes.{is_blank, is_bom, is_break}
@@ -16,7 +17,6 @@ use Rattle.granit_lexemes.specs.Moves.{past_prefix_mark, steps}
 use Rattle.granit_restart.specs.Boundary.{Boundary, AtStart, PastEnd, AtTextEnd, is_separated, is_mark_of, past_note}
 use Rattle.granit_restart.specs.Boundary.{finished_line, past_end, mark_here, boundary_here, over_dropped, boundary_or}
 use Rattle.granit_restart.specs.Boundary.{boundary_in, next_boundary}
-use Rattle.granit_steps.proofs.Futures.{and_left, and_right}
 
 -- ---- one character
 
@@ -166,16 +166,16 @@ record Three (s : ℕ) (text : List ℕ) : Type 0 where
   spelled : text ≡ s ∷ s ∷ s ∷ rest
 
 three : (s : ℕ) (text : List ℕ) → (0 == s) ≡ false → begins_with_3 s s s text ≡ true → Three s text
-three s [] none e = absurd (let f = and_left (0 == s) (0 == s) (and_left (0 == s && 0 == s) (0 == s) e) in cc)
-three s (a ∷ []) none e = absurd (let f = and_right (a == s && 0 == s) (0 == s) e in cc)
-three s (a ∷ b ∷ []) none e = absurd (let f = and_right (a == s && b == s) (0 == s) e in cc)
+three s [] none e = absurd (let f = (and_parts (0 == s) (0 == s) (and_parts (0 == s && 0 == s) (0 == s) e).0).0 in cc)
+three s (a ∷ []) none e = absurd (let f = (and_parts (a == s && 0 == s) (0 == s) e).1 in cc)
+three s (a ∷ b ∷ []) none e = absurd (let f = (and_parts (a == s && b == s) (0 == s) e).1 in cc)
 three s (a ∷ b ∷ c ∷ cs) none e =
-    let all = and_left (a == s && b == s) (c == s) e in
+    let all = (and_parts (a == s && b == s) (c == s) e).0 in
     record {
       rest = cs;
-      spelled = ap₂ (λ x (t : List ℕ). x ∷ t) (equal a s (and_left (a == s) (b == s) all))
-          (ap₂ (λ x (t : List ℕ). x ∷ t) (equal b s (and_right (a == s) (b == s) all))
-          (ap (λ x. x ∷ cs) (equal c s (and_right (a == s && b == s) (c == s) e))));
+      spelled = ap₂ (λ x (t : List ℕ). x ∷ t) (equal a s (and_parts (a == s) (b == s) all).0)
+          (ap₂ (λ x (t : List ℕ). x ∷ t) (equal b s (and_parts (a == s) (b == s) all).1)
+          (ap (λ x. x ∷ cs) (equal c s (and_parts (a == s && b == s) (c == s) e).1)));
     }
 
 steps_text : (a b c : ℕ) (cs : List ℕ) (h : Here) → h.unread.text ≡ a ∷ b ∷ c ∷ cs → (steps 3 h).unread.text ≡ cs

@@ -2,6 +2,7 @@
 -- in a mapping.
 use Rattle.std.proofs.Common.{Bool, List, Option, [], ap, drop, false, length, map, not, refl, subst, suc, sym, true}
 use Rattle.std.proofs.Common.{ℕ, ◌&&◌, ◌||◌, ◌∙◌, ◌∷◌, ◌≡◌}
+use Rattle.std.proofs.lemmas.Bool.{and_right}
 use Rattle.std.specs.Prelude.{None, Some, if◌then◌else◌, is_none}
 use Rattle.granit_base.specs.Place.{Mark}
 use Rattle.granit_error.specs.OptionsData.{OptionsData}
@@ -73,11 +74,11 @@ fine_as (Curly ∷ bs) a b e f = e ∙ f
 
 -- ---- keys that are left behind
 
-if_mild : (b : Bool) (k : PossibleKey) → k.is_required ≡ false → Mild (if b then None else Some k)
+pub if_mild : (b : Bool) (k : PossibleKey) → k.is_required ≡ false → Mild (if b then None else Some k)
 if_mild true k e j f = none_mild j f
 if_mild false k e j f = let same : k ≡ j = cc in ap (λ (k : PossibleKey). k.is_required) (sym same) ∙ e
 
-fresh_mild : (o : OptionsData) (in_flow : Bool) (m : Mark) (key : Option PossibleKey) → Mild key
+pub fresh_mild : (o : OptionsData) (in_flow : Bool) (m : Mark) (key : Option PossibleKey) → Mild key
     → Mild (fresh_key o in_flow m key)
 fresh_mild o in_flow m None h = none_mild
 fresh_mild o in_flow m (Some k) h = if_mild (is_stale o in_flow m k) k (h k refl)
@@ -158,10 +159,6 @@ goes_mild property low (Some k) h = by k.is_head
 no_column : (columns : List OpenColumn) (n : ℕ) → columns ≡ [] → is_column (innermost_column columns) n ≡ false
 no_column columns n e = ap (λ (cs : List OpenColumn). is_column (innermost_column cs) n) e
 
-pub and_false : (a b : Bool) → b ≡ false → (a && b) ≡ false
-and_false true b e = e
-and_false false b e = refl
-
 choose_mild : (b : Bool) (x y : Option PossibleKey) → Mild x → Mild y → Mild (if b then x else y)
 choose_mild true x y h g = h
 choose_mild false x y h g = g
@@ -173,7 +170,7 @@ node_mild property allowed m bs l c h =
     choose_mild allowed (Some (new_key property m l))
     (key_goes_on property (is_left (block_column l) m.place.column) (top_key l))
     (λ j e. ap (λ (k : PossibleKey). k.is_required) (sym (some_same (new_key property m l) j e))
-    ∙ and_false (not (is_in_flow l)) (is_column (block_column l) m.place.column)
+    ∙ and_right (not (is_in_flow l)) (is_column (block_column l) m.place.column)
     (no_column l.columns m.place.column c.columns))
     (goes_mild property (is_left (block_column l) m.place.column) (top_key l) h)
 
@@ -314,3 +311,9 @@ cut_fits bs l h c cut e = absurd (let f : None ≡ Some cut = sym c.cut ∙ e in
 pub stands_inside : (o : OptionsData) (sort : PlacedSort) (bs : List Bracket) (l : Laid) (h : Here) → Calm bs l
     → StandsInside o (Placed sort) h l
 stands_inside o sort bs l h c left = let e : [] ≡ left.1.0 ∷ left.1.1 = sym c.columns ∙ left.1.2 in cc
+
+pub no_cut_fits : (l : Laid) (h : Here) → l.cut ≡ None → CutFits l h
+no_cut_fits l h e cut f = absurd (some_cut (sym e ∙ f))
+  where
+    some_cut : ◌≡◌ {A = Option Mark} None (Some cut) → ⊥
+    some_cut g = cc

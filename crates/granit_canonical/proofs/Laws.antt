@@ -2,7 +2,8 @@
 use Rattle.std.proofs.Common.{Bool, Err, List, Ok, Option, Result, [], ap, ap₂, cond, false, not, refl, subst, sym}
 use Rattle.std.proofs.Common.{true, ℕ, ◌++◌, ◌∙◌, ◌∷◌, ◌≡◌, ◌≤◌}
 use Rattle.std.proofs.lemmas.List.{append-nil}
-use Rattle.std.specs.Prelude.{None, Some, is_none}
+use Rattle.std.specs.Prelude.{None}
+use Rattle.granit_lexemes.proofs.PieceLemmas.{fault_none}
 use Rattle.granit_answers.proofs.OneCause.{answer_reads, reading_answered, unasked_silent}
 use Rattle.granit_canonical.proofs.Whole.{AreBare, BareRead, flagged_bare, items_of, text_read, unflagged}
 use Rattle.granit_canonical.specs.Canonical.{canonical_events}
@@ -30,11 +31,11 @@ use Rattle.granit_reading.proofs.WholeLaw.{all_read_whole}
 
 -- ---- no comment is one too many, since there is none
 
-abbrev BareItem : Item → Type 0
+abbrev pub BareItem : Item → Type 0
 BareItem (OfLexeme l) = l.tail ≡ None
 BareItem (OfComment c) = ⊥
 
-abbrev BareItems : List FlaggedItem → Type 0
+abbrev pub BareItems : List FlaggedItem → Type 0
 BareItems [] = Unit {0}
 BareItems (i ∷ is) = BareItem i.item × BareItems is
 
@@ -42,21 +43,22 @@ bare_items : (ls : List Lexeme) → AreBare ls → BareItems (unflagged ls)
 bare_items [] b = tt
 bare_items (l ∷ ls) b = (b.1, bare_items ls b.2)
 
-bare_behind : (front rest : List FlaggedItem) → BareItems (front ++ rest) → BareItems rest
+pub bare_behind : (front rest : List FlaggedItem) → BareItems (front ++ rest) → BareItems rest
 bare_behind [] rest b = b
 bare_behind (i ∷ front) rest b = bare_behind front rest b.1
 
-no_row : (row rest : List FlaggedItem) (cs : List CommentRead) → BareItems (row ++ rest) → AreComments row cs → cs ≡ []
+pub no_row : (row rest : List FlaggedItem) (cs : List CommentRead) → BareItems (row ++ rest) → AreComments row cs
+    → cs ≡ []
 no_row [] rest [] b a = refl
 no_row [] rest (c ∷ cs) b a = absurd a
 no_row (i ∷ row) rest [] b a = absurd a
 no_row (i ∷ row) rest (c ∷ cs) b a = absurd (subst BareItem a.0 b.0)
 
-not_more : (kept : List CommentRead) (c : CommentRead) → [] ≡ kept ++ (c ∷ []) → ⊥
+pub not_more : (kept : List CommentRead) (c : CommentRead) → [] ≡ kept ++ (c ∷ []) → ⊥
 not_more [] c e = cc
 not_more (k ∷ kept) c e = cc
 
-no_row_too_long : (o : OptionsData) (items front : List FlaggedItem) (f : Fault) → BareItems items
+pub no_row_too_long : (o : OptionsData) (items front : List FlaggedItem) (f : Fault) → BareItems items
     → RowTooLong o items front f → ⊥
 no_row_too_long o items front f b r =
     let here = bare_behind front (record { item = OfLexeme r.lexeme; begins_key = r.flag } ∷ (r.row ++ r.rest))
@@ -82,7 +84,7 @@ no_events (l ∷ ls) b = quiet l.kind l.tail (next_line (unflagged ls)) (comment
         → tail_events kind tail next ++ es ≡ es
     quiet kind tail next es e = ap (λ (t : Option CommentRead). tail_events kind t next ++ es) e
 
-all_others : (es : List PlainEvent) → only_comments es ≡ [] → but_comments es ≡ es
+pub all_others : (es : List PlainEvent) → only_comments es ≡ [] → but_comments es ≡ es
 all_others [] h = refl
 all_others (e ∷ es) h = by (is_note e.kind) (λ g. all_others es g) h
   where
@@ -92,15 +94,12 @@ all_others (e ∷ es) h = by (is_note e.kind) (λ g. all_others es g) h
     by true rest g = absurd cc
     by false rest g = ap (λ (ks : List PlainEvent). e ∷ ks) (rest g)
 
-fault_none : (f : Option Fault) → is_none f ≡ true → f ≡ None
-fault_none None e = refl
-fault_none (Some f) e = absurd cc
-
 items_in : Result (List Item × LexState) Fault → List Item
 items_in (Ok x) = x.0
 items_in (Err f) = []
 
-lex_same : (a : Result (List Item × LexState) Fault) (i j : List Item) (s t : LexState) → a ≡ Ok (i, s) → a ≡ Ok (j, t)
+pub lex_same : (a : Result (List Item × LexState) Fault) (i j : List Item) (s t : LexState) → a ≡ Ok (i, s)
+    → a ≡ Ok (j, t)
     → i ≡ j
 unfolding items_in
 lex_same a i j s t e f = sym (ap items_in e) ∙ ap items_in f

@@ -7,11 +7,12 @@ use Rattle.granit_base.specs.Place.{Mark}
 use Rattle.granit_canonical.proofs.Taking.{LexemeRead}
 use Rattle.granit_canonical.specs.Canonical.{Anchors, anchor_before, node_before, spot, tag_before}
 use Rattle.granit_error.specs.OptionsData.{OptionsData}
+use Rattle.granit_language.proofs.Scopes.{scoped_append, behind_append}
 use Rattle.granit_language.specs.Node.{TreeProperties}
 use Rattle.granit_language.specs.Reached.{Reads}
 use Rattle.granit_language.specs.Room.{Inside, ItemIn, PartFits, RightOf, Room, behind_property}
 use Rattle.granit_language.specs.Scope.{Scope, no_scope}
-use Rattle.granit_language.specs.Scoping.{Means, in_scope, next_scope, scope_behind, scope_fault, scoped}
+use Rattle.granit_language.specs.Scoping.{Means, next_scope, scope_behind, scope_fault, scoped}
 use Rattle.granit_language.specs.Seen.{at_of, terminal_kind, terminal_of}
 use Rattle.granit_language.specs.Telling.{AnchorTold, TagTold, anchor_told, indent_told, node_told, number_told}
 use Rattle.granit_language.specs.Telling.{properties_anchor, properties_tag, span_told, tag_told}
@@ -23,6 +24,15 @@ use Rattle.granit_machine.specs.Reader.{is_end_kind}
 use Rattle.granit_machine.specs.ReaderState.{ReaderState}
 use Rattle.granit_model.specs.FlowText.{anchor_text}
 use Rattle.granit_model.specs.Tree.{Properties}
+use Rattle.granit_lexemes.specs.Lexeme.{KeyStart}
+use Rattle.granit_machine.specs.Lexing.{Flagging, and_key, flag_item, flag_lexeme, is_nearest}
+
+pub flag_bare : (l : Lexeme) (x y : Flagging) → x ≡ y → y.1 ≡ [] → l.key ≡ None
+    → flag_item (OfLexeme l) x ≡ (record { item = OfLexeme l; begins_key = false } ∷ y.0, [])
+flag_bare l x y e n k =
+    ap (flag_item (OfLexeme l)) e
+    ∙ ap (λ (ns : List ℕ). flag_lexeme (is_nearest l.number ns) l (y.0, ns)) n
+    ∙ ap (λ (key : Option KeyStart). (record { item = OfLexeme l; begins_key = false } ∷ y.0, and_key key [])) k
 
 -- lexemes that are read one behind the other, none of them the end or a `:` with a key
 pub data Lexed (o : OptionsData) : ReaderState → List Lexeme → ReaderState → Type 0 where
@@ -44,16 +54,6 @@ lexed_then o _ t u _ bs (and_lexeme {ls = ls} l next r e k n p) q =
 pub seen_append : (ks bs : List Lexeme) → seen (ks ++ bs) ≡ seen ks ++ seen bs
 seen_append [] bs = refl
 seen_append (l ∷ ks) bs = ap (λ (xs : List Terminal). terminal_of false no_scope l ∷ xs) (seen_append ks bs)
-
-pub scoped_append : (s : Scope) (xs ys : List Terminal)
-    → scoped s (xs ++ ys) ≡ scoped s xs ++ scoped (scope_behind xs s) ys
-scoped_append s [] ys = refl
-scoped_append s (x ∷ xs) ys =
-    ap (λ (zs : List Terminal). in_scope s x ∷ zs) (scoped_append (next_scope x.kind s) xs ys)
-
-behind_append : (s : Scope) (xs ys : List Terminal) → scope_behind (xs ++ ys) s ≡ scope_behind ys (scope_behind xs s)
-behind_append s [] ys = refl
-behind_append s (x ∷ xs) ys = behind_append (next_scope x.kind s) xs ys
 
 pub means_append : (o : OptionsData) (xs ys : List Terminal) → Means o xs → Means o ys → Means o (xs ++ ys)
 means_append o [] ys p q = q

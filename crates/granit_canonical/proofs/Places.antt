@@ -1,6 +1,6 @@
 -- Where reading stands in a text: a place, and what is left there.
-use Rattle.std.proofs.Common.{Bool, List, Option, [], add-zero, ap, arith, drop, false, length, refl, suc, sym, take}
-use Rattle.std.proofs.Common.{true, ℕ, ◌++◌, ◌+◌, ◌-◌, ◌==◌, ◌||◌, ◌∙◌, ◌∷◌, ◌≡◌, ◌≢◌}
+use Rattle.std.proofs.Common.{List, Option, [], add-zero, ap, arith, false, length, refl, suc, sym, take}
+use Rattle.std.proofs.Common.{true, ℕ, ◌++◌, ◌+◌, ◌-◌, ◌==◌, ◌∙◌, ◌∷◌, ◌≡◌, ◌≢◌}
 use Rattle.std.specs.Prelude.{None, Some}
 use Rattle.std.specs.Str.{encode_utf8_all}
 use Rattle.granit_base.specs.Classes.{is_blank, is_break, is_gap}
@@ -8,7 +8,8 @@ use Rattle.granit_base.specs.Place.{Mark, Place, first}
 use Rattle.granit_canonical.specs.Canonical.{spot}
 use Rattle.granit_language.specs.Counting.{CountedHere, CountedMark}
 use Rattle.granit_language.specs.Stretch.{GapTo, NoGap, ends, white}
-use Rattle.granit_lexemes.proofs.HereLemmas.{step_lends, step_text}
+use Rattle.granit_lexemes.proofs.CharTests.{solid_no_blank}
+use Rattle.granit_lexemes.proofs.HereLemmas.{step_lends, stepped_text}
 use Rattle.granit_lexemes.specs.Gap.{Each, IsGap}
 use Rattle.granit_lexemes.specs.HeaderExtent.{LexemeTail, uncommented}
 use Rattle.granit_lexemes.specs.Here.{Here, mark_of, start_of, step}
@@ -35,9 +36,6 @@ starts_held x = record {
   sum = omega arith;
   lends = refl;
 }
-
-pub stepped_text : (h : Here) (c : ℕ) (t : List ℕ) → h.unread.text ≡ c ∷ t → (step h).unread.text ≡ t
-stepped_text h c t e = step_text h ∙ ap (drop 1) e
 
 pub held_on : (x : List ℕ) (h : Here) (c : ℕ) (t : List ℕ) → h.unread.text ≡ c ∷ t → Held x h → Held x (step h)
 held_on x h c t e held = record {
@@ -151,14 +149,6 @@ pub blank_feed : is_blank 0x0A ≡ false
 unfolding is_blank
 blank_feed = refl
 
-pub no_blank : (c : ℕ) → is_gap c ≡ false → is_blank c ≡ false
-unfolding is_gap
-no_blank c e = by (is_blank c) (is_break c) e
-  where
-    by : (a b : Bool) → (a || b) ≡ false → a ≡ false
-    by true b e = e
-    by false b e = refl
-
 -- what is left behind the blanks of a gap
 abbrev pub left_of : {g : List ℕ} → Parts g → List ℕ → List ℕ
 left_of touching rest = rest
@@ -182,7 +172,7 @@ tail_of x rest _ end touching s held e =
     let behind : BlanksBehind end [] rest = record {
       whole = e;
       each = tt;
-      all = no_blank (first rest)
+      all = solid_no_blank (first rest)
           s.no_gap;
     } in record {
       after = end;
@@ -196,7 +186,7 @@ tail_of x rest _ end touching s held e =
     }
 tail_of x rest _ end spaced s held e =
     let behind : BlanksBehind end (0x20 ∷ []) rest =
-    record { whole = e; each = blank_space; all = no_blank (first rest) s.no_gap } in
+    record { whole = e; each = blank_space; all = solid_no_blank (first rest) s.no_gap } in
     let p = past_all x (0x20 ∷ []) rest end e held in record {
       after = over (0x20 ∷ []) end;
       blanks = 0x20 ∷ [];

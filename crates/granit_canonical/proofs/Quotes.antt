@@ -3,6 +3,8 @@ use Rattle.std.proofs.Common.{Bool, List, [], ap, append_assoc, arith, false, le
 use Rattle.std.proofs.Common.{◌++◌, ◌==◌, ◌||◌, ◌∙◌, ◌∷◌, ◌≡◌}
 use Rattle.std.proofs.lemmas.Bool.Decides.{nat_tests}
 use Rattle.std.proofs.Common.{ap₂}
+use Rattle.std.proofs.Math.Bool.{and-true}
+use Rattle.std.proofs.lemmas.Bool.{and_from, or_right}
 use Rattle.std.specs.List.{list_all}
 use Rattle.std.specs.Prelude.{None}
 use lib.Utf8.{scalars}
@@ -26,6 +28,7 @@ use Rattle.granit_language.specs.Before.{in_front}
 use Rattle.granit_language.specs.Begins.{Begins, quote}
 use Rattle.granit_language.specs.Reached.{ends_column_by}
 use Rattle.granit_language.specs.Standing.{in_front_of_lexeme, quoted_lexeme_of}
+use Rattle.granit_lexemes.proofs.CharTests.{feed_prints}
 use Rattle.granit_lexemes.specs.Basics.{lent_if}
 use Rattle.granit_lexemes.specs.Here.{Here, mark_of}
 use Rattle.granit_lexemes.specs.LayoutData.{LayoutData}
@@ -55,11 +58,7 @@ pub closing_quote : (rest : List ℕ) → is_closing false (0x22 ∷ rest) ≡ t
 unfolding is_closing
 closing_quote rest = refl
 
-pub feed_prints : is_printable 0x0A ≡ true
-unfolding is_printable is_break
-feed_prints = refl
-
-mark_prints : (c : ℕ) → is_mark c ≡ true → is_printable c ≡ true
+pub mark_prints : (c : ℕ) → is_mark c ≡ true → is_printable c ≡ true
 unfolding is_printable is_break
 mark_prints c e = grind (arith, nat_tests)
 
@@ -73,21 +72,9 @@ trails_by false true true r p q = refl
 trails_by false true false r p q = absurd cc
 trails_by false false m r p q = absurd cc
 
-mark_trails : (at : LayoutData) (v : Bool) (c : ℕ) → at.in_flow ≡ true → is_mark c ≡ true → may_trail at v c ≡ true
+pub mark_trails : (at : LayoutData) (v : Bool) (c : ℕ) → at.in_flow ≡ true → is_mark c ≡ true → may_trail at v c ≡ true
 unfolding may_trail
 mark_trails at v c f e = trails_by (is_break c) at.in_flow (is_mark c) (v && c == 0x3A) f e
-
-or_right : (a b : Bool) → b ≡ true → (a || b) ≡ true
-or_right true b e = refl
-or_right false b e = e
-
-with_true : (a : Bool) → (a && true) ≡ a
-with_true true = refl
-with_true false = refl
-
-both_true : (a b : Bool) → a ≡ true → b ≡ true → (a && b) ≡ true
-both_true true b p q = q
-both_true false b p q = p
 
 pub ends_by : (at : LayoutData) (start : Mark) (h : Here) (c : ℕ) (t : List ℕ) → h.unread.text ≡ c ∷ t
     → is_printable c ≡ true → ((v : Bool) → may_trail at v c ≡ true) → ends_quoted at start h ≡ true
@@ -95,7 +82,7 @@ ends_by at start h c t e p m =
     or_right (length h.unread.text == 0)
     (is_printable (first h.unread.text) && may_trail at (h.place.line == start.place.line) (first h.unread.text))
     (ap (λ (l : List ℕ). is_printable (first l) && may_trail at (h.place.line == start.place.line) (first l)) e
-    ∙ both_true (is_printable c) (may_trail at (h.place.line == start.place.line) c) p
+    ∙ and_from (is_printable c) (may_trail at (h.place.line == start.place.line) c) p
     (m (h.place.line == start.place.line)))
 
 -- what follows may stand behind a quoted scalar
@@ -118,7 +105,7 @@ text_between chars inside h e lends =
     ap₂ (λ (kept lends : Bool). record { characters = chars; is_borrowed = kept && lends })
     (ap (list_all (is_kept false)) (sym e) ∙ all_itself chars) lends
     ∙ ap (λ (lent : Bool). record { characters = chars; is_borrowed = lent })
-    (with_true (list_all stands_for_itself chars))
+    (and-true (list_all stands_for_itself chars))
 
 module _ (o : OptionsData) (x : List ℕ) where
   pub takes_quoted : (bs : List Bracket) (chars g rest : List ℕ) (t : ReaderState) → Follows bs g rest

@@ -12,6 +12,7 @@ use Rattle.granit_base.specs.Classes.{hex_value, is_blank, is_break, is_digit, i
 use Rattle.granit_base.specs.Classes.{is_within}
 use Rattle.granit_canonical.proofs.Fronts.{character_by, quoted_character_front}
 use Rattle.granit_canonical.specs.Canonical.{stands_for_itself}
+use Rattle.granit_lexemes.proofs.CharTests.{backslash_stops}
 use Rattle.granit_lexemes.specs.Decoding.{AreDigits, Escape, digit_count, letter, letter_value, number, number_behind}
 use Rattle.granit_lexemes.specs.Decoding.{number_of}
 use Rattle.granit_lexemes.specs.Gap.{Each}
@@ -125,11 +126,11 @@ space_is c rest e =
     let same : 0x20 ≡ c = grind (arith, nat_tests) in
     ap (λ c. quoted_character c rest) (sym same) ∙ a_space rest
 
-blank_space : is_blank 0x20 ≡ true
+pub blank_space : is_blank 0x20 ≡ true
 unfolding is_blank
 blank_space = refl
 
-one_more_blank : (bl : List ℕ) → Each is_blank bl → Each is_blank (bl ++ 0x20 ∷ [])
+pub one_more_blank : (bl : List ℕ) → Each is_blank bl → Each is_blank (bl ++ 0x20 ∷ [])
 one_more_blank [] e = (blank_space, tt)
 one_more_blank (b ∷ bl) e = (e.0, one_more_blank bl e.1)
 
@@ -188,17 +189,13 @@ spelled_between at bl (c ∷ cs) behind b s =
 
 -- ---- what is written as it is
 
-backslash_escapes : is_kept false 0x5C ≡ false
-unfolding is_blank is_break is_gap is_printable is_literal
-backslash_escapes = refl
-
 plain_kept : (c : ℕ) → (c == 0x22 || c == 0x5C) ≡ false → is_within 0x20 0x7E c ≡ true → is_kept false c ≡ true
 unfolding is_literal is_printable is_gap is_blank is_break
 plain_kept c e f = grind (arith, nat_tests)
 
 -- no character of an escape but the first tells more
 escape_tells : (rest : List ℕ) → list_all (is_kept false) (0x5C ∷ rest) ≡ false
-escape_tells rest = ap (λ b. b && list_all (is_kept false) rest) backslash_escapes
+escape_tells rest = ap (λ b. b && list_all (is_kept false) rest) backslash_stops
 
 one_itself : (quote plain byte short : Bool) (c : ℕ) (rest : List ℕ) → (c == 0x22 || c == 0x5C) ≡ quote
     → is_within 0x20 0x7E c ≡ plain → list_all (is_kept false) (character_by quote plain byte short c rest)

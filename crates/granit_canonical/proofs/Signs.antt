@@ -7,8 +7,9 @@ use Rattle.granit_base.specs.Place.{Mark, first}
 use Rattle.granit_canonical.proofs.Calm.{Calm, Fine, calm_behind, calm_closed, calm_forgets, calm_noded, calm_opened}
 use Rattle.granit_canonical.proofs.Calm.{calm_shut, curly_key, shape_flow, shape_innermost, shape_length}
 use Rattle.granit_canonical.proofs.Calm.{stands_inside, top_mild}
-use Rattle.granit_canonical.proofs.Places.{Held, Parts, Starts, held_on, marked, parts_gap, spaced, stepped_text}
+use Rattle.granit_canonical.proofs.Places.{Held, Parts, Starts, held_on, marked, parts_gap, spaced}
 use Rattle.granit_canonical.proofs.Places.{tail_of, touching}
+use Rattle.granit_canonical.proofs.Quoting.{blank_space}
 use Rattle.granit_canonical.proofs.Taking.{Taken, begins_text, begins_with, passed_at}
 use Rattle.granit_error.specs.OptionsData.{OptionsData}
 use Rattle.granit_language.specs.Before.{behind, behind_colon, behind_question_sign, in_front, last_of_colon}
@@ -16,6 +17,7 @@ use Rattle.granit_language.specs.Begins.{Begins, closes, colon, comma, opens, qu
 use Rattle.granit_language.specs.Reached.{ends_column_by}
 use Rattle.granit_language.specs.Standing.{ColonFits, QuestionStands, key_start}
 use Rattle.granit_language.specs.Stretch.{TailIf}
+use Rattle.granit_lexemes.proofs.HereLemmas.{stepped_text}
 use Rattle.granit_lexemes.specs.Here.{Here, mark_of, next_char, step}
 use Rattle.granit_lexemes.specs.Lexeme.{Close, Colon, Comma, Lexeme, Open, Question, closer_char, opener_char}
 use Rattle.granit_lexemes.specs.Source.{Source}
@@ -59,7 +61,7 @@ closer_begins Square flow adjacent column text =
 closer_begins Curly flow adjacent column text =
     begins_with flow adjacent column 0x7D text (CloseSign Curly) refl refl refl refl (closes Curly)
 
-comma_begins : (flow adjacent : Bool) (column : ℕ) (text : List ℕ)
+pub comma_begins : (flow adjacent : Bool) (column : ℕ) (text : List ℕ)
     → Begins flow adjacent column (0x2C ∷ text) (Placed CommaSign)
 unfolding is_printable is_break
 comma_begins flow adjacent column text = begins_with flow adjacent column 0x2C text CommaSign refl refl refl refl comma
@@ -76,11 +78,7 @@ unfolding is_printable is_break is_blank_or_breakz is_blank
 colon_begins flow adjacent column text =
     begins_with flow adjacent column 0x3A (0x20 ∷ text) ColonSign refl refl refl refl (colon refl)
 
-a_blank : is_blank 0x20 ≡ true
-unfolding is_blank
-a_blank = refl
-
-no_space : (b : Bracket) → (opener_char b == 0x20) ≡ true → ⊥
+pub no_space : (b : Bracket) → (opener_char b == 0x20) ≡ true → ⊥
 no_space Square e = cc
 no_space Curly e = cc
 
@@ -251,7 +249,7 @@ module _ (o : OptionsData) (x : List ℕ) where
       let text = stepped_text h 0x3A (0x20 ∷ rest) e in
       let end = held_on x h 0x3A (0x20 ∷ rest) e held in
       let tail = tail_of x rest (0x20 ∷ []) (step h) spaced st end text in
-      let blank : is_blank (next_char (step h)) ≡ true = ap (λ (l : List ℕ). is_blank (first l)) text ∙ a_blank in
+      let blank : is_blank (next_char (step h)) ≡ true = ap (λ (l : List ℕ). is_blank (first l)) text ∙ blank_space in
       let ends = ends_column_by (Placed ColonSign) t in
       let y : Lexeme = record (sign_lexeme ends Colon h l) { key = key_start (top_key l); tail = None } in
       record {

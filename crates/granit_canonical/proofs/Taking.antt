@@ -36,7 +36,7 @@ abbrev pub follows_parts : {bs : List Bracket} {g rest : List ℕ} → Follows b
 follows_parts (in_brackets p e) = p
 follows_parts (at_line s) = fed
 
-mark_starts : (c : ℕ) (rest : List ℕ) → is_mark c ≡ true → Starts (c ∷ rest)
+pub mark_starts : (c : ℕ) (rest : List ℕ) → is_mark c ≡ true → Starts (c ∷ rest)
 unfolding is_gap is_blank is_break
 mark_starts c rest e = record {
   no_gap = grind (arith, nat_tests);

@@ -13,7 +13,7 @@ use Rattle.granit_canonical.proofs.Marks.{takes_end, takes_start}
 use Rattle.granit_canonical.proofs.Names.{ends_fed}
 use Rattle.granit_canonical.proofs.Nodes.{dash_starts}
 use Rattle.granit_canonical.proofs.Passing.{Lexed, Passage, and_lexeme, means_append, no_lexeme, passage_none}
-use Rattle.granit_canonical.proofs.Passing.{passage_one, passage_then, place_in, plain_root, scope_of, scoped_append}
+use Rattle.granit_canonical.proofs.Passing.{passage_one, passage_then, place_in, plain_root, scope_of}
 use Rattle.granit_canonical.proofs.Passing.{seen, seen_append}
 use Rattle.granit_canonical.proofs.Places.{Before, Held, Starts, directly, starts_end, starts_held}
 use Rattle.granit_canonical.proofs.Spelling.{CanSpell, CanSpellTrees, documents_spell}
@@ -22,6 +22,7 @@ use Rattle.granit_canonical.proofs.Trees.{tree_read}
 use Rattle.granit_canonical.specs.Canonical.{Anchors, canonical_events, documents_before, past_documents, past_tree}
 use Rattle.granit_canonical.specs.Canonical.{renewed, stretch, tree_before}
 use Rattle.granit_error.specs.OptionsData.{OptionsData}
+use Rattle.granit_language.proofs.Scopes.{scoped_append}
 use Rattle.granit_language.specs.Node.{AfterRoot, AtFresh, Beginning, EndFresh, EndRooted, ExplicitRoot, Just, Rooted}
 use Rattle.granit_language.specs.Node.{Start, Stream}
 use Rattle.granit_language.specs.Placed.{RootedPlaced, StartPlaced, StreamPlaced}
@@ -38,14 +39,13 @@ use Rattle.granit_language.specs.Whole.{WholeReading}
 use Rattle.granit_language.specs.Within.{rooted_within, start_within, stream_within}
 use Rattle.granit_language.specs.Yield.{spell, spell_start, spell_stream}
 use Rattle.granit_lexemes.specs.Here.{Here, start_of}
-use Rattle.granit_lexemes.specs.Lexeme.{Item, KeyStart, Lexeme, OfLexeme}
+use Rattle.granit_lexemes.specs.Lexeme.{Item, Lexeme, OfLexeme}
 use Rattle.granit_lexemes.specs.Place.{since_line_end}
 use Rattle.granit_lexemes.specs.PlainEvent.{PlainEvent, event_at, event_on}
 use Rattle.granit_lexemes.specs.Source.{Source}
 use Rattle.granit_machine.specs.Laid.{is_opener}
 use Rattle.granit_machine.specs.LexemeSort.{StartMark, TextEnd}
-use Rattle.granit_machine.specs.Lexing.{FlaggedItem, Flagging, and_key, flag_item, flag_lexeme, flagged, flagging}
-use Rattle.granit_machine.specs.Lexing.{is_nearest}
+use Rattle.granit_machine.specs.Lexing.{FlaggedItem, Flagging, flagged, flagging}
 use Rattle.granit_machine.specs.Reader.{is_end_kind}
 use Rattle.granit_machine.specs.ReaderState.{ReaderState, reader_start}
 use Rattle.granit_model.specs.Characters.{HasCharacters}
@@ -53,6 +53,7 @@ use Rattle.granit_model.specs.FlowText.{documents_text, flow_characters, tree_te
 use Rattle.granit_model.specs.Tree.{AfterTrees, DocumentsFit, NoTrees, PlainTree, PlainTrees, TreeFits, tree_depth}
 use Rattle.granit_model.specs.Tree.{trees_depth}
 use Rattle.granit_reading.proofs.Counting.{column_behind}
+use Rattle.granit_canonical.proofs.Passing.{flag_bare}
 
 -- ---- documents
 
@@ -213,13 +214,6 @@ lexed_whole o _ t next _ e (and_lexeme {ls = ls} l middle q f i j p) r end =
 abbrev pub unflagged : List Lexeme → List FlaggedItem
 unflagged [] = []
 unflagged (l ∷ ls) = record { item = OfLexeme l; begins_key = false } ∷ unflagged ls
-
-flag_bare : (l : Lexeme) (x y : Flagging) → x ≡ y → y.1 ≡ [] → l.key ≡ None
-    → flag_item (OfLexeme l) x ≡ (record { item = OfLexeme l; begins_key = false } ∷ y.0, [])
-flag_bare l x y e n k =
-    ap (flag_item (OfLexeme l)) e
-    ∙ ap (λ (ns : List ℕ). flag_lexeme (is_nearest l.number ns) l (y.0, ns)) n
-    ∙ ap (λ (key : Option KeyStart). (record { item = OfLexeme l; begins_key = false } ∷ y.0, and_key key [])) k
 
 flagging_bare : (ls : List Lexeme) → AreBare ls → flagging (items_of ls) ≡ (unflagged ls, [])
 flagging_bare [] b = refl

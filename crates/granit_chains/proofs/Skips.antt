@@ -12,6 +12,7 @@ use Rattle.granit_lexemes.specs.Here.{Here}
 use Rattle.granit_lexemes.specs.Outcome.{Fault, ◌>>=◌}
 use Rattle.granit_lexemes.specs.Pieces.{pieces, then_more, turns}
 use Rattle.granit_lexemes.specs.PlainEvent.{DocumentEnd, EventKind, PlainEvent, StreamEnd}
+use Rattle.granit_recovery.proofs.SkipLaws.{event_in}
 use Rattle.granit_restart.proofs.LookLaws.{follows_told}
 use Rattle.granit_restart.specs.Following.{document_follows}
 use Rattle.granit_restart.specs.Header.{is_in_header}
@@ -59,10 +60,6 @@ ahead_fewer [] = tt
 ahead_fewer (e ∷ es) = kind_fewer e.kind e es refl (ahead_fewer es)
 
 -- ---- turns
-
-abbrev event_in : Result (Option PlainEvent × StepState) Fault → Option PlainEvent
-event_in (Ok x) = x.0
-event_in (Err f) = None
 
 abbrev given_in : Turn → Option (List PlainEvent)
 given_in (Ok x) = x.0

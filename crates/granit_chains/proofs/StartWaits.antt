@@ -1,6 +1,7 @@
 -- Where a `---` waits, reading has not ended.
 use Rattle.std.proofs.Common.{◌≡◌, ℕ, Bool, true, false, List, [], ◌∷◌, ◌++◌, Option, Some, None, Result, Ok, Err}
 use Rattle.std.proofs.Common.{refl, sym, ap, subst, ◌∙◌}
+use Rattle.std.proofs.lemmas.Bool.{or_parts}
 use Rattle.std.specs.Prelude.{if◌then◌else◌}
 use Rattle.granit_error.specs.OptionsData.{OptionsData}
 use Rattle.granit_lexemes.specs.Here.{Here}
@@ -19,7 +20,7 @@ use Rattle.granit_restart.specs.Boundary.{AtStart, AtTextEnd, Boundary, next_bou
 use Rattle.granit_restart.specs.Restart.{at_boundary, at_found, at_lexeme, behind_fault, behind_fault_at, cursor_at}
 use Rattle.granit_restart.specs.Restart.{read_boundary}
 use Rattle.granit_shifted.proofs.FoundLaws.{led_holds}
-use Rattle.granit_shifted.proofs.MarkWaits.{none_waits, one_waits, or_right}
+use Rattle.granit_shifted.proofs.MarkWaits.{none_waits, one_waits}
 use Rattle.granit_shifted.proofs.StartsRead.{any_starts, is_start, starts}
 use Rattle.granit_shifted.proofs.StartWaits.{StartLast}
 use Rattle.granit_shifted.specs.Led.{Led, led_anew, led_keeping, led_on, led_start, led_with}
@@ -79,8 +80,8 @@ fed_bare : (s : StepState) (i : FlaggedItem) (is : List FlaggedItem)
     (r : Result (List PlainEvent × ParserState) Fault) → s.queue ≡ i ∷ is → EndBare s
     → TurnBare (r >>= λ x. Ok (Some [], with_fed s is x))
 fed_bare s i is (Ok x) queue bare = λ last ended.
-    or_right (starts i.item) (any_starts (items is))
-    (subst (λ (q : List FlaggedItem). any_starts (items q) ≡ false) queue (bare ended))
+    (or_parts (starts i.item) (any_starts (items is))
+    (subst (λ (q : List FlaggedItem). any_starts (items q) ≡ false) queue (bare ended))).1
 fed_bare s i is (Err f) queue bare = tt
 
 came_bare : (q front : List FlaggedItem) (is came : List Item) (x : Lexeme) (flag : Bool)

@@ -1,13 +1,12 @@
 -- Where comments aren't asked for, the answer is the same without them.
-use Rattle.std.proofs.Common.{Bool, List, Ok, Result, ap, false, refl, sym, true, ℕ, ◌∙◌, ◌≡◌}
-use Rattle.granit_answers.proofs.Answered.{bare_run}
+use Rattle.std.proofs.Common.{Bool, List, Ok, ap, false, refl, sym, true, ℕ, ◌∙◌, ◌≡◌}
+use Rattle.granit_answers.proofs.Answered.{bare_run, one_answer}
 use Rattle.granit_answers.proofs.Asked.{asked_run, bare_of, bare_silent}
 use Rattle.granit_comments.specs.TextComments.{ToldUnasked}
 use Rattle.granit_error.specs.OptionsData.{OptionsData}
 use Rattle.granit_invariants.proofs.CommentLaws.{run_same}
 use Rattle.granit_invariants.specs.Quiet.{asking, but_comments}
 use Rattle.granit_lexemes.specs.Here.{start_of}
-use Rattle.granit_lexemes.specs.Outcome.{Fault}
 use Rattle.granit_lexemes.specs.PlainEvent.{PlainEvent}
 use Rattle.granit_machine.specs.Machine.{run}
 
@@ -20,9 +19,6 @@ told_by o x es r false off =
 
 pub told_unasked : (o : OptionsData) (x : List ℕ) (es : List PlainEvent) → run o x ≡ Ok es → ToldUnasked o x es
 told_unasked o x es r = told_by o x es r o.emit_comments refl
-
-one_answer : (r : Result (List PlainEvent) Fault) (es ds : List PlainEvent) → r ≡ Ok es → r ≡ Ok ds → es ≡ ds
-one_answer r es ds a b = cc
 
 pub both_answered : (o : OptionsData) (x : List ℕ) (es ds : List PlainEvent) → run o x ≡ Ok es
     → run (asking false o) x ≡ Ok ds → ds ≡ but_comments es

@@ -20,7 +20,7 @@ use Rattle.granit_language.specs.Placed.{PropertiesPlaced, SomeProperties, left_
 use Rattle.granit_language.specs.Placed.{ContentPlaced, EntriesPlaced, EntryLeadPlaced, PairsPlaced, PairLeadPlaced}
 use Rattle.granit_language.specs.Placed.{PairPlaced, LeftPlaced, FlowPlaced, LastPlaced, ItemPlaced, BeforePlaced}
 use Rattle.granit_language.specs.Placed.{DirectivesPlaced, StartPlaced, RootedPlaced, StreamPlaced}
-use Rattle.granit_language.specs.Room.{Holder, BlockIn, FlowIn, KeyIn, room_behind, right_fits, sequence_fits, PartFits}
+use Rattle.granit_language.specs.Room.{Holder, BlockIn, KeyIn, room_behind, right_fits, sequence_fits, PartFits}
 use Rattle.granit_language.specs.Room.{joins, continues_node, sequence_over, ask_over, place_fits, is_made, pair_over}
 use Rattle.granit_language.specs.Settling.{put_in, empty_fits, end_pair, finish_at, settle_place}
 use Rattle.granit_language.specs.Terminal.{PartKind, Alias, Property, Scalar, Open, Directive, DocumentStart}
@@ -33,9 +33,11 @@ use Rattle.granit_language.specs.Yield.{spell_rooted, spell_stream}
 use Rattle.granit_lexemes.specs.declared.layout.Bracket.{Bracket}
 use Rattle.granit_lexemes.specs.declared.layout.Bracket.TheVariants.{Square, Curly}
 use Rattle.std.proofs.Common.{eqb-true}
-use Rattle.granit_grammar.proofs.Tests.{or_right, same_left}
+use Rattle.std.proofs.lemmas.Bool.{or_right}
+use Rattle.granit_grammar.proofs.Tests.{same_left}
 use Rattle.granit_grammar.proofs.Entering.{to_same, steps, alike, close_put, gate_with, past_pairs, site_door, door}
 use Rattle.granit_grammar.proofs.Entering.{door_with, enters_entry, enters_part, enters_dash}
+use Rattle.granit_grammar.proofs.Numbers.{no_sequence, no_right}
 
 -- properties
 pub takes_properties :
@@ -279,25 +281,6 @@ alone_first (Two m j n b) h f ls g s = record {
   rest = terminal (Part (Property n)) b ∷ ls;
   is = ap (λ f. f ∷ terminal (Part (Property n)) b ∷ ls) g.0;
 }
-
--- no block collection is a simple key
-pub no_right :
-    (p : TreeProperties) (h : Holder) (f : Terminal) (c : ℕ) → right_fits (room_behind p (KeyIn h f)) c ≡ true → ⊥
-no_right NoProperties h f c e = cc (e)
-no_right (One k i) (BlockIn d) f c e = cc (e)
-no_right (One k i) (FlowIn bracket) f c e = cc (e)
-no_right (Two k i m j) (BlockIn d) f c e = cc (e)
-no_right (Two k i m j) (FlowIn bracket) f c e = cc (e)
-
-pub no_sequence :
-    (p : TreeProperties) (h : Holder) (f : Terminal) (loose : Bool) (c : ℕ) →
-    sequence_fits (room_behind p (KeyIn h f)) loose c ≡ true → ⊥
-no_sequence p h f false c e = no_right p h f c e
-no_sequence NoProperties h f true c e = cc (e)
-no_sequence (One k i) (BlockIn d) f true c e = cc (e)
-no_sequence (One k i) (FlowIn bracket) f true c e = cc (e)
-no_sequence (Two k i m j) (BlockIn d) f true c e = cc (e)
-no_sequence (Two k i m j) (FlowIn bracket) f true c e = cc (e)
 
 pub key_first :
     (k : Node) (h : Holder) (f x : Terminal) (ls : List Terminal) → Placed k (KeyIn h f) x → FirstOf (spell k ls) f

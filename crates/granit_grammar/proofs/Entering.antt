@@ -19,7 +19,7 @@ use Rattle.granit_language.specs.Terminal.{is_stream_kind, begins_entry_kind, st
 use Rattle.granit_lexemes.specs.declared.layout.Bracket.{Bracket}
 use Rattle.granit_lexemes.specs.declared.layout.Bracket.TheVariants.{Square, Curly}
 use Rattle.std.proofs.Common.{eqb-true}
-use Rattle.granit_grammar.proofs.Tests.{and_left, and_right, and_both, and_false, or_left, or_right, or_false}
+use Rattle.std.proofs.lemmas.Bool.{and_parts, and_from, and_right, or_left, or_right, or_from}
 use Rattle.granit_grammar.proofs.Tests.{right_left, right_same, same_left, no_key, no_key_alone}
 use Rattle.granit_grammar.proofs.Placing.{EntryFits}
 
@@ -87,24 +87,24 @@ entry_not_empty :
     (loose : Bool) (c : ℕ) (x : Terminal) → nat_lt c (reach_of x.kind x.at) ≡ true → entry_empty loose c x ≡ false
 entry_not_empty loose c x e =
     let s = right_same c (reach_of x.kind x.at) e
-    in or_false _ _ (right_left c (reach_of x.kind x.at) e)
-    (or_false _ _ (and_false _ _ s) (and_false loose _ (and_false _ _ s)))
+    in or_from _ _ (right_left c (reach_of x.kind x.at) e)
+    (or_from _ _ (and_right _ _ s) (and_right loose _ (and_right _ _ s)))
 
 value_not_empty : (c : ℕ) (x : Terminal) → nat_lt c (reach_of x.kind x.at) ≡ true → value_empty (BlockIn c) x ≡ false
 value_not_empty c x e =
-    or_false _ _ (right_left c (reach_of x.kind x.at) e) (and_false _ _ (right_same c (reach_of x.kind x.at) e))
+    or_from _ _ (right_left c (reach_of x.kind x.at) e) (and_right _ _ (right_same c (reach_of x.kind x.at) e))
 
 stays_part :
     (r : Hole) (k : PartKind) (i : At) → part_fits (room_of r) i ≡ true → empty_fits r (terminal (Part k) i) ≡ false
 stays_part (AtRoot (Bare b)) k i e = refl
 stays_part (AtRoot (Explicit s j)) k i e = refl
-stays_part (AtEntry r p loose c lead j) k i e = entry_not_empty loose c (terminal (Part k) i) (and_right _ _ e)
+stays_part (AtEntry r p loose c lead j) k i e = entry_not_empty loose c (terminal (Part k) i) (and_parts _ _ e).1
 stays_part (AtItem r p bracket o lead) k i e = refl
 stays_part (AtKey r a f) k i e = refl
-stays_part (AtAsk r (BlockPairs p c lead) q) k i e = value_not_empty c (terminal (Part k) i) (and_right _ _ e)
+stays_part (AtAsk r (BlockPairs p c lead) q) k i e = value_not_empty c (terminal (Part k) i) (and_parts _ _ e).1
 stays_part (AtAsk r (FlowPairs p Square o lead) q) k i e = refl
 stays_part (AtAsk r (FlowPairs p Curly o lead) q) k i e = refl
-stays_part (AtColon r (BlockPairs p c lead) left m) k i e = value_not_empty c (terminal (Part k) i) (and_right _ _ e)
+stays_part (AtColon r (BlockPairs p c lead) left m) k i e = value_not_empty c (terminal (Part k) i) (and_parts _ _ e).1
 stays_part (AtColon r (FlowPairs p bracket o lead) left m) k i e = refl
 
 stays_right :
@@ -125,9 +125,9 @@ stays_loose (AtRoot root) i e = cc (e)
 stays_loose (AtEntry r p loose c lead j) i e = cc (e)
 stays_loose (AtItem r p bracket o lead) i e = refl
 stays_loose (AtKey r a f) i e = refl
-stays_loose (AtAsk r (BlockPairs p c lead) q) i e = or_false _ _ (same_left (edge i) c e) refl
+stays_loose (AtAsk r (BlockPairs p c lead) q) i e = or_from _ _ (same_left (edge i) c e) refl
 stays_loose (AtAsk r (FlowPairs p bracket o lead) q) i e = cc (e)
-stays_loose (AtColon r (BlockPairs p c lead) left m) i e = or_false _ _ (same_left (edge i) c e) refl
+stays_loose (AtColon r (BlockPairs p c lead) left m) i e = or_from _ _ (same_left (edge i) c e) refl
 stays_loose (AtColon r (FlowPairs p bracket o lead) left m) i e = cc (e)
 
 no_opens : (room : Room) (i : At) → part_fits room i ≡ true → opens room i ≡ false
@@ -162,7 +162,7 @@ want_entry :
 want_entry r p (Part k) i b e =
     let room = room_behind p (room_of r)
     in ap (λ b. choose b (entry_at (pair_site r p i) (Part k) i) (if_go (part_fits room i) (part_take r p k i)))
-    (and_both _ _ b e)
+    (and_from _ _ b e)
 want_entry r p Question i b e = ap (λ b. if_go b (entry_at (pair_site r p i) Question i)) e
 want_entry r p (Colon None) i b e = ap (λ b. if_go b (entry_at (pair_site r p i) (Colon None) i)) e
 want_entry r p kind i b e = cc (b)
@@ -222,7 +222,7 @@ right_indicates Inside i e = e
 goes_on_entry :
     (room : Room) (p : TreeProperties) (kind : TerminalKind) (i : At) → begins_entry_kind kind i.begins_key ≡ true →
     indicates room i ≡ true → continues_node room p kind i ≡ true
-goes_on_entry room p (Part k) i b e = or_left _ _ (and_both _ _ b e)
+goes_on_entry room p (Part k) i b e = or_left _ _ (and_from _ _ b e)
 goes_on_entry room p Question i b e = e
 goes_on_entry room p (Colon None) i b e = e
 goes_on_entry room p kind i b e = cc (b)
@@ -279,7 +279,7 @@ enters_block r (Two k j m h) kind i e b =
 -- the next entry of a block mapping
 in_column : (kind : TerminalKind) (i : At) (c : ℕ) → begins_entry_kind kind i.begins_key ≡ true → (edge i == c) ≡ true →
     entry_in (terminal kind i) c ≡ true
-in_column (Part k) i c b e = and_both _ _ b e
+in_column (Part k) i c b e = and_from _ _ b e
 in_column Question i c b e = e
 in_column (Colon None) i c b e = e
 in_column kind i c b e = cc (b)
@@ -320,15 +320,15 @@ pub enters_entry :
     (r : Hole) (a : Around) (kind : TerminalKind) (i : At) (x : Terminal) → AroundPlaced a (room_of r) x →
     EntryFits (holder a) kind i → Enters (site_door r a) kind i (entry_take r a kind i)
 enters_entry r (BlockPairs p c NoPair) kind i x f e =
-    let b = and_left (begins_entry_kind kind i.begins_key) (edge i == c) e in
-    let q = eqb-true (edge i) c (and_right (begins_entry_kind kind i.begins_key) (edge i == c) e) in
+    let b = (and_parts (begins_entry_kind kind i.begins_key) (edge i == c) e).0 in
+    let q = eqb-true (edge i) c (and_parts (begins_entry_kind kind i.begins_key) (edge i == c) e).1 in
     subst (λ c. Enters (gate_with r p) kind i (entry_take r (BlockPairs p c NoPair) kind i)) q
     (enters_block r p kind i (subst (λ c. right_fits (room_behind p (room_of r)) c ≡ true) (sym q) f.1) b)
 enters_entry r (BlockPairs p c (AfterPair ps)) kind i x f e =
-    enters_next r p c ps kind i (and_left (begins_entry_kind kind i.begins_key) (edge i == c) e)
-    (and_right (begins_entry_kind kind i.begins_key) (edge i == c) e)
+    enters_next r p c ps kind i (and_parts (begins_entry_kind kind i.begins_key) (edge i == c) e).0
+    (and_parts (begins_entry_kind kind i.begins_key) (edge i == c) e).1
 enters_entry r (FlowPairs p bracket o lead) kind i x f e =
-    enters_item r p bracket o lead kind i (and_left (begins_entry_kind kind i.begins_key) true e)
+    enters_item r p bracket o lead kind i (and_parts (begins_entry_kind kind i.begins_key) true e).0
 
 -- a lexeme of a node
 part_at_gate :
@@ -360,11 +360,11 @@ enters_part r NoProperties k i f g j = plain_enters r k i f g
 enters_part r (One m h) k i f g j =
     let e = behind_part (room_of r) k i g in
     to_same (Want r (One m h)) (Part k) i _ _ (want_part r (One m h) k i e)
-    (at_properties r m h (Part k) i (or_right _ _ (and_both _ _ e j)))
+    (at_properties r m h (Part k) i (or_right _ _ (and_from _ _ e j)))
 enters_part r (Two m h n b) k i f g j =
     let e = behind_part (room_of r) k i g in
     to_same (Want r (Two m h n b)) (Part k) i _ _ (want_part r (Two m h n b) k i e)
-    (at_two r m h n b (Part k) i (or_right _ _ (and_both _ _ e j)))
+    (at_two r m h n b (Part k) i (or_right _ _ (and_from _ _ e j)))
 
 -- a `-` that begins a sequence
 want_dash :

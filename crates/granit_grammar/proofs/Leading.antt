@@ -17,11 +17,12 @@ use Rattle.granit_language.specs.Yield.{spell_entry_lead, spell_pair_lead, spell
 use Rattle.granit_language.specs.Yield.{spell_item, spell_stream}
 use Rattle.granit_lexemes.specs.declared.layout.Bracket.{Bracket}
 use Rattle.granit_grammar.proofs.Entering.{steps, site_door, door, door_with, enters_entry}
-use Rattle.granit_grammar.proofs.Complete.{takes_properties, takes_opener, FirstOf, part_first, alone_first, no_right}
-use Rattle.granit_grammar.proofs.Complete.{no_sequence, key_first, left_first, pair_first, takes, takes_content}
+use Rattle.granit_grammar.proofs.Complete.{takes_properties, takes_opener, FirstOf, part_first, alone_first}
+use Rattle.granit_grammar.proofs.Complete.{key_first, left_first, pair_first, takes, takes_content}
 use Rattle.granit_grammar.proofs.Complete.{takes_entries, takes_entry_lead, takes_pair_lead, takes_pair, takes_left}
 use Rattle.granit_grammar.proofs.Complete.{takes_flow, takes_item, takes_before, takes_directives, takes_start}
 use Rattle.granit_grammar.proofs.Complete.{takes_rooted, takes_stream, reads}
+use Rattle.granit_grammar.proofs.Numbers.{no_sequence, no_right}
 
 -- what stands in a hole: a simple key begins with its first lexeme
 abbrev Heads : Hole → List Terminal → Type 0
@@ -156,7 +157,7 @@ no_stream p x rest s i f e q h =
     let c = ap (λ n. tree_goes n (settle_place x p) x (parse rest)) e in
     cc (a, b, c, ap (λ ls. parse ls tree_start) h)
 
-not_fault : (p q : OpenPlace) (x : Terminal) → at_end p ≡ RefusedAt q x → ⊥
+pub not_fault : (p q : OpenPlace) (x : Terminal) → at_end p ≡ RefusedAt q x → ⊥
 not_fault (Ended s) q x e = cc
 not_fault p q x e = cc
 

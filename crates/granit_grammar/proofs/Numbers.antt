@@ -1,5 +1,6 @@
 -- Where each colon names the last lexeme at its depth that begins a simple key, the trees' keys are named.
 use Rattle.std.proofs.Common.{◌≡◌, ℕ, Bool, true, false, List, [], ◌∷◌, refl, subst, ◌&&◌, not, Option, Some, None}
+use Rattle.std.proofs.lemmas.Bool.{and_parts, not-true}
 use Rattle.granit_base.specs.Written.{Written}
 use Rattle.granit_base.specs.declared.style.ScalarStyle.{ScalarStyle}
 use Rattle.granit_language.specs.Fitting.{with_inner_key}
@@ -28,15 +29,10 @@ use Rattle.granit_language.specs.Yield.{spell_entry_lead, spell_pairs, spell_pai
 use Rattle.granit_language.specs.Yield.{spell_flow, spell_last, spell_item, spell_before, spell_directives, spell_start}
 use Rattle.granit_language.specs.Yield.{spell_rooted, spell_stream}
 use Rattle.granit_lexemes.specs.declared.layout.Bracket.{Bracket}
-use Rattle.granit_grammar.proofs.Tests.{and_left}
 
 unflagged : (a b : Bool) → (not a && b) ≡ true → a ≡ false
 unflagged true b e = cc (e)
 unflagged false b e = refl
-
-unflagged_alone : (a : Bool) → not a ≡ true → a ≡ false
-unflagged_alone true e = cc (e)
-unflagged_alone false e = refl
 
 -- a lexeme with no key
 no_flag : (room : Room) (i : At) → part_fits room i ≡ true → i.begins_key ≡ false
@@ -44,8 +40,8 @@ no_flag (RightOf n) i e = unflagged i.begins_key _ e
 no_flag (ValueIn c) i e = unflagged i.begins_key _ e
 no_flag (KeyIn h f) i e = cc (e)
 no_flag (BehindKey c) i e = unflagged i.begins_key _ e
-no_flag ItemIn i e = unflagged_alone i.begins_key e
-no_flag Inside i e = unflagged_alone i.begins_key e
+no_flag ItemIn i e = not-true i.begins_key e
+no_flag Inside i e = not-true i.begins_key e
 
 abbrev NoKeyRoom : Room → Type 0
 NoKeyRoom (KeyIn h f) = ⊥
@@ -175,7 +171,7 @@ record Named (N : Type 0) (ks : List (Option ℕ)) (rest : List Terminal) : Type
   top : Option ℕ
   fit : KeysFit (top ∷ ks) rest
 
-no_right :
+pub no_right :
     (p : TreeProperties) (h : Holder) (f : Terminal) (c : ℕ) → right_fits (room_behind p (KeyIn h f)) c ≡ true → ⊥
 no_right NoProperties h f c e = cc (e)
 no_right (One k i) (BlockIn d) f c e = cc (e)
@@ -183,7 +179,7 @@ no_right (One k i) (FlowIn bracket) f c e = cc (e)
 no_right (Two k i m j) (BlockIn d) f c e = cc (e)
 no_right (Two k i m j) (FlowIn bracket) f c e = cc (e)
 
-no_sequence :
+pub no_sequence :
     (p : TreeProperties) (h : Holder) (f : Terminal) (loose : Bool) (c : ℕ) →
     sequence_fits (room_behind p (KeyIn h f)) loose c ≡ true → ⊥
 no_sequence p h f false c e = no_right p h f c e
@@ -304,7 +300,8 @@ mutual
       LeftPlaced left h m → KeysFit (k ∷ ks) (spell_left left (terminal (colon_kind left) m ∷ rest)) →
       Named (LeftNamed left) ks rest
   left_named (SimpleKey y t n) h m k ks rest f g =
-      let a = key_named t h y (terminal (Colon (Some n)) m) k ks (terminal (Colon (Some n)) m ∷ rest) (and_left _ _ f.0)
+      let a = key_named t h y (terminal (Colon (Some n)) m) k ks (terminal (Colon (Some n)) m ∷ rest)
+              (and_parts _ _ f.0).0
       f.1 g in
       record { named = (a.0, a.1.0); top = None; fit = a.1.1 }
   left_named (Asked q v) h m k ks rest f g =

@@ -5,6 +5,7 @@ use Rattle.std.specs.Prelude.{◌⊎◌}
 use Rattle.granit_error.specs.OptionsData.{OptionsData}
 use Rattle.granit_grammar.specs.EventMachine.{EventAnswer, Events, Faulty, Unfinished}
 use Rattle.granit_grammar.specs.Guarded.{whole_run}
+use Rattle.granit_language.proofs.Scopes.{scoped_append}
 use Rattle.granit_language.specs.Faults.{IsSpelled, FaultAt}
 use Rattle.granit_language.specs.GrammarFault.{GrammarFault, TooManyBlocks}
 use Rattle.granit_language.specs.Scope.{Scope, no_scope}
@@ -35,11 +36,6 @@ one_more_refused :
 one_more_refused xs more k x f s =
     refused_so (xs ++ (x ∷ [])) more k x f (subst IsSpelled (sym (append_assoc xs (x ∷ []) more)) s)
 
-scoped_joined :
-    (s : Scope) (xs ys : List Terminal) → scoped s (xs ++ ys) ≡ scoped s xs ++ scoped (scope_behind xs s) ys
-scoped_joined s [] ys = refl
-scoped_joined s (x ∷ xs) ys = ap (λ l. in_scope s x ∷ l) (scoped_joined (next_scope x.kind s) xs ys)
-
 means_there :
     (o : OptionsData) (s : Scope) (front : List Terminal) (here : Terminal) (rest : List Terminal) →
     Means o (scoped s (front ++ (here ∷ rest))) → scope_fault o here.kind (scope_behind front s) ≡ None
@@ -56,7 +52,7 @@ module _ (o : OptionsData) (front : List Terminal) (here : Terminal) where
       scoped no_scope (front ++ (here ∷ rest)) ++ more
       ≡ scoped no_scope front ++ (There ∷ (scoped (next_scope here.kind (scope_behind front no_scope)) rest ++ more))
   joined rest more =
-      ap (λ l. l ++ more) (scoped_joined no_scope front (here ∷ rest))
+      ap (λ l. l ++ more) (scoped_append no_scope front (here ∷ rest))
       ∙ append_assoc (scoped no_scope front)
       (There ∷ scoped (next_scope here.kind (scope_behind front no_scope)) rest) more
 

@@ -1,5 +1,6 @@
 -- What is read is placed.
 use Rattle.std.proofs.Common.{◌≡◌, ℕ, Bool, true, false, List, [], ◌∷◌, refl, subst, ◌==◌, ◌&&◌, Some, None}
+use Rattle.std.proofs.lemmas.Bool.{eq-eqb, and_parts, and_from}
 use Rattle.granit_grammar.specs.TreeMachine.{NextPlace, Go, NotTaken, if_go, part_take, entry_take, entry_at}
 use Rattle.granit_grammar.specs.TreeMachine.{plain_site, pair_site, want_take, take, tree_step, TreeAnswer, ReadAs}
 use Rattle.granit_grammar.specs.TreeMachine.{RefusedAt, Short, at_end, tree_goes, parse, tree_start}
@@ -24,7 +25,6 @@ use Rattle.granit_language.specs.Terminal.{Part, At, Terminal, terminal, edge, b
 use Rattle.granit_language.specs.Terminal.{no_terminal}
 use Rattle.granit_language.specs.Yield.{spell_stream}
 use Rattle.granit_lexemes.specs.declared.layout.Bracket.TheVariants.{Square, Curly}
-use Rattle.granit_grammar.proofs.Tests.{and_left, and_right, and_both, same_number}
 use Rattle.granit_grammar.proofs.Sound.{Leads, Then, step_leads, close_spells}
 
 pub either_is :
@@ -155,7 +155,7 @@ block_placed :
     right_fits (room_behind p (room_of r)) (edge i) ≡ true → begins_entry_kind kind i.begins_key ≡ true →
     NextPlaced (entry_take r (BlockPairs p (edge i) NoPair) kind i)
 block_placed r p kind i f g e b =
-    entry_placed r (BlockPairs p (edge i) NoPair) kind i f (g, e, tt) (and_both _ _ b (same_number (edge i)))
+    entry_placed r (BlockPairs p (edge i) NoPair) kind i f (g, e, tt) (and_from _ _ b (eq-eqb (edge i) (edge i) refl))
 
 -- behind properties no item begins
 behind_right :
@@ -173,7 +173,7 @@ plain_placed :
     (r : Hole) (kind : TerminalKind) (i : At) → HolePlaced r → indicates (room_of r) i ≡ true →
     begins_entry_kind kind i.begins_key ≡ true → NextPlaced (entry_at (plain_site r i) kind i)
 plain_placed (AtItem r q bracket o lead) kind i f e b =
-    entry_placed r (FlowPairs q bracket o lead) kind i f.0 (f.1, f.2, f.3) (and_both _ _ b refl)
+    entry_placed r (FlowPairs q bracket o lead) kind i f.0 (f.1, f.2, f.3) (and_from _ _ b refl)
 plain_placed (AtRoot root) kind i f e b = block_placed (AtRoot root) NoProperties kind i f tt e b
 plain_placed (AtEntry r q loose c lead j) kind i f e b =
     block_placed (AtEntry r q loose c lead j) NoProperties kind i f tt e b
@@ -208,13 +208,14 @@ want_placed :
     NextPlaced (want_take r p kind i)
 want_placed r p (Part k) i f g =
     choose_placed (opens (room_behind p (room_of r)) i) _ _
-    (λ e. site_placed r p (Part k) i f g (and_right _ _ e) (and_left _ _ e))
+    (λ e. site_placed r p (Part k) i f g (and_parts _ _ e).1 (and_parts _ _ e).0)
     (if_placed (part_fits (room_behind p (room_of r)) i) _
     (λ e. part_placed r p k i f g (fits_is (room_behind p (room_of r)) k i e)))
 want_placed r p Dash i f g =
     choose_placed (loose_fits (room_behind p (room_of r)) (edge i)) _ _
-    (λ e x. ((f, g, e, tt, same_number (edge i)), tt))
-    (if_placed (right_fits (room_behind p (room_of r)) (edge i)) _ (λ e x. ((f, g, e, tt, same_number (edge i)), tt)))
+    (λ e x. ((f, g, e, tt, eq-eqb (edge i) (edge i) refl), tt))
+    (if_placed (right_fits (room_behind p (room_of r)) (edge i)) _
+    (λ e x. ((f, g, e, tt, eq-eqb (edge i) (edge i) refl), tt)))
 want_placed r p Question i f g =
     if_placed (indicates (room_behind p (room_of r)) i) _ (λ e. site_placed r p Question i f g e refl)
 want_placed r p (Colon None) i f g =

@@ -2,7 +2,7 @@
 use Rattle.std.proofs.Common.{◌≡◌, List, [], ◌∷◌, ◌++◌, refl, sym, ap, ◌∙◌, subst}
 use Rattle.granit_grammar.specs.EventMachine.{EventStep, EventAnswer, Events, Faulty, Unfinished, run_events}
 use Rattle.granit_grammar.specs.TreeMachine.{NextPlace, Go, NotTaken, take, tree_step, TreeAnswer, ReadAs, RefusedAt}
-use Rattle.granit_grammar.specs.TreeMachine.{Short, at_end, tree_goes, parse, tree_start}
+use Rattle.granit_grammar.specs.TreeMachine.{Short, tree_goes, parse, tree_start}
 use Rattle.granit_language.specs.FaultKinds.{fault_kind_at}
 use Rattle.granit_language.specs.Faults.{IsSpelled, FaultAt}
 use Rattle.granit_language.specs.GrammarFault.{GrammarFault}
@@ -22,6 +22,7 @@ use Rattle.granit_grammar.proofs.Complete.{reads}
 use Rattle.granit_grammar.proofs.AgreeClose.{close_agrees}
 use Rattle.granit_grammar.proofs.AgreeStep.{StepsTo, goes_to, stops_at, take_agrees}
 use Rattle.granit_grammar.proofs.Agree.{Answers, machines_agree}
+use Rattle.granit_grammar.proofs.Leading.{not_fault}
 use Rattle.granit_grammar.proofs.Settled.{close_settled}
 use Rattle.granit_grammar.proofs.Viable.{completes}
 
@@ -54,10 +55,6 @@ record StopsAt (xs : List Terminal) (p q : OpenPlace) (x : Terminal) : Type 0 wh
   placed : OpenPlaced x q
   place_open : HasOneName q
   settled : settle_place x q ≡ q
-
-no_fault : (p q : OpenPlace) (x : Terminal) → at_end p ≡ RefusedAt q x → ⊥
-no_fault (Ended s) q x e = cc
-no_fault p q x e = cc
 
 goes_stops :
     (n : NextPlace) (l : Terminal) (xs : List Terminal) (p q : OpenPlace) (x : Terminal) → HasOneName p →
@@ -106,7 +103,7 @@ goes_stops NotTaken l xs p q x i f e j g t ih h =
 stops :
     (xs : List Terminal) (p q : OpenPlace) (x : Terminal) → HasOneName p → ((y : Terminal) → OpenPlaced y p) →
     parse xs p ≡ RefusedAt q x → StopsAt xs p q x
-stops [] p q x i f h = absurd (no_fault p q x h)
+stops [] p q x i f h = absurd (not_fault p q x h)
 stops (l ∷ xs) p q x i f h =
     goes_stops (tree_step p l) l xs p q x i f refl (step_open p l i)
     (take_placed (settle_place l p) l.kind l.at (close_placed l p (f l))) (step_leads p l)

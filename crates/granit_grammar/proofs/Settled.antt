@@ -1,5 +1,6 @@
 -- What a lexeme ends, it ends at once.
-use Rattle.std.proofs.Common.{◌≡◌, ℕ, Bool, true, false, refl, ap}
+use Rattle.std.proofs.Common.{◌≡◌, ℕ, Bool, refl, ap}
+use Rattle.granit_grammar.proofs.Placing.{either_is}
 use Rattle.granit_language.specs.Choice.{choose}
 use Rattle.granit_language.specs.Node.{TreeProperties, NoProperties, One, Two, Alone, Sequence, Mapping, Content}
 use Rattle.granit_language.specs.Node.{Nothing, Just, Entries, Entry, Through, Pair, WithColon, AskOnly, Paired}
@@ -13,11 +14,6 @@ use Rattle.granit_language.specs.Terminal.{At, Terminal, stands_left}
 
 abbrev pub Settled : Terminal → OpenPlace → Type 0
 Settled x p = settle_place x p ≡ p
-
-either_is :
-    (P : OpenPlace → Type 0) (b : Bool) (p q : OpenPlace) → (b ≡ true → P p) → (b ≡ false → P q) → P (choose b p q)
-either_is P true p q x y = x refl
-either_is P false p q x y = y refl
 
 entries_settled :
     (x : Terminal) (on : Content → OpenPlace) (r : Hole) (p : TreeProperties) (loose : Bool) (c : ℕ) (es : Entries) →

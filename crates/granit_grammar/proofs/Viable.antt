@@ -1,5 +1,6 @@
 -- Each open place that is reached goes on to a whole stream.
 use Rattle.std.proofs.Common.{◌≡◌, ℕ, Bool, true, false, List, [], ◌∷◌, refl, sym, ap, ◌∙◌, arith, ◌==◌, nat_lt, Some}
+use Rattle.std.proofs.lemmas.Bool.{or_left}
 use Rattle.granit_grammar.specs.TreeMachine.{take, ReadAs, tree_goes, parse}
 use Rattle.granit_language.specs.Choice.{choose}
 use Rattle.granit_language.specs.Node.{TreeProperties, NoProperties, One, Two, Node, Alone, Flow, Sequence, Mapping}
@@ -20,7 +21,6 @@ use Rattle.granit_language.specs.Terminal.{closes_kind, text_start, no_terminal}
 use Rattle.granit_lexemes.specs.declared.layout.Bracket.{Bracket}
 use Rattle.granit_lexemes.specs.declared.layout.Bracket.TheVariants.{Square, Curly}
 use Rattle.std.proofs.lemmas.Bool.Decides.{nat_tests}
-use Rattle.granit_grammar.proofs.Tests.{or_left}
 use Rattle.granit_grammar.proofs.Entering.{alike, close_put}
 use Rattle.granit_grammar.proofs.Complete.{closes_empty, closes_item, closer_over}
 

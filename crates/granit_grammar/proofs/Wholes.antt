@@ -43,7 +43,7 @@ use Rattle.granit_grammar.proofs.Guards.{passes_first, passes_second, passes_bot
 use Rattle.granit_grammar.proofs.Limit.{from_zero, passes_within, within_passes}
 use Rattle.granit_grammar.proofs.Declares.{not_named, declared_by, versioned_by, not_versioned, not_in_force}
 
-abbrev Starts : EventAnswer → EventAnswer
+abbrev pub Starts : EventAnswer → EventAnswer
 Starts o = events_before (pointed StreamStarts text_start ∷ []) o
 
 -- ---- streams

@@ -1,12 +1,10 @@
 -- Each open column is right of the one around it.
-use Rattle.std.proofs.Common.{◌≡◌, ℕ, ◌<◌, ◌==◌, Bool, true, false, List, [], ◌∷◌, map, Some, refl, sym, ap, subst}
-use Rattle.std.proofs.Common.{arith}
+use Rattle.std.proofs.Common.{◌≡◌, ℕ, ◌==◌, Bool, true, false, List, [], ◌∷◌, Some, refl, sym, ap, subst}
+use Rattle.std.proofs.lemmas.Bool.{eqb-true}
 use Rattle.std.specs.Prelude.{nat_lt}
-use Rattle.std.proofs.lemmas.Bool.Decides.{nat_tests}
 use Rattle.granit_error.specs.OptionsData.{OptionsData}
 use Rattle.granit_lexemes.specs.Here.{Here}
 use Rattle.granit_lexemes.specs.Lexeme.{Lexeme, Item}
-use Rattle.granit_lexemes.specs.declared.layout.OpenColumn.{OpenColumn}
 use Rattle.granit_machine.specs.Laid.{Laid}
 use Rattle.granit_machine.specs.ReaderState.{ReaderState, reader_start}
 use Rattle.granit_language.specs.Before.{freshened}
@@ -14,10 +12,11 @@ use Rattle.granit_language.specs.OpenColumns.{latest, AtMost, columns_of}
 use Rattle.granit_language.specs.Reached.{ends_column_by, Reads, of_comment, of_lexeme, Reached, stops, goes_on}
 use Rattle.granit_reading.proofs.ColumnsKept.{chosen, pop, push, pop_at_most, pop_below, KeySays, OpenSays, Change}
 use Rattle.granit_reading.proofs.ColumnsKept.{nothing, all_end, passes, own, keyed}
-use Rattle.granit_reading.proofs.ColumnsLaw.{columns_change}
+use Rattle.granit_reading.proofs.ColumnsLaw.{columns_change, cols}
 use Rattle.granit_reading.proofs.ColumnsWhole.{agrees_said, fresh_said, reads_said}
 use Rattle.granit_reading.proofs.Telling.{gap_agrees, telling}
 use Rattle.granit_invariants.specs.RisingColumns.{RightOf, Rise}
+use Rattle.granit_reading.proofs.ColumnsLaw.{is_below}
 
 -- ---- lists
 
@@ -29,18 +28,12 @@ pop_rise k (n ∷ ns) r = on (nat_lt k n) (pop_rise k ns r.1)
     on true q = q
     on false q = r
 
-same_number : (n c : ℕ) → (n == c) ≡ true → n ≡ c
-same_number n c e = grind (arith, nat_tests, e)
-
-is_below : (n c : ℕ) → (n == c) ≡ false → nat_lt c n ≡ false → n < c
-is_below n c e f = grind (arith, nat_tests, e, f)
-
 push_rise : (c : ℕ) (ns : List ℕ) → AtMost c ns → Rise ns → Rise (push c ns)
 push_rise c [] p r = (tt, tt)
 push_rise c (n ∷ ns) p r = on (n == c) refl
   where
     on : (v : Bool) → (n == c) ≡ v → Rise (c ∷ chosen v ns (n ∷ ns))
-    on true e = (subst (λ a. RightOf a ns) (same_number n c e) r.0, r.1)
+    on true e = (subst (λ a. RightOf a ns) (eqb-true n c e) r.0, r.1)
     on false e = (is_below n c e p.0, r)
 
 -- ---- one lexeme
@@ -63,18 +56,15 @@ changed_rise ls s l after m r (keyed k flow colon key old e none) =
 
 -- ---- all of a text
 
-abbrev columns_in : List OpenColumn → List ℕ
-columns_in cs = map (λ (x : OpenColumn). x.column) cs
-
 reads_rise : (o : OptionsData) (ls : List Lexeme) {s after : ReaderState} {items : List Item} → Reads o s items after
     → OpenSays ls s.laid → Rise (columns_of s.laid) → Rise (columns_of after.laid)
-reads_rise o ls {s = s} (of_comment at g k) m r = let a = gap_agrees g in subst Rise (sym (ap columns_in a.columns)) r
+reads_rise o ls {s = s} (of_comment at g k) m r = let a = gap_agrees g in subst Rise (sym (ap cols a.columns)) r
 reads_rise o ls {s = s} (of_lexeme {items = items} at behind sort comes given keys) m r =
     let f = freshened o at in
     let a = gap_agrees comes.gap in
     let n = fresh_said o ls at (agrees_said ls s.laid at.laid a m) in
     let t = telling o (ends_column_by sort f) f.here _ sort items behind given.1 in
-    changed_rise ls f.laid t.lexeme behind.laid n (subst Rise (sym (ap columns_in a.columns)) r)
+    changed_rise ls f.laid t.lexeme behind.laid n (subst Rise (sym (ap cols a.columns)) r)
     (columns_change o sort f.here f.laid t.lexeme t.cut t.reached behind.laid t.told t.says t.leaves)
 
 reached_rise : (o : OptionsData) (ls : List Lexeme) {s t : ReaderState} {items : List Item} → Reached o s items t

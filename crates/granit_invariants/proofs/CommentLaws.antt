@@ -12,6 +12,7 @@ use Rattle.granit_lexemes.specs.Lexeme.{Lexeme, Item, OfLexeme, OfComment}
 use Rattle.granit_lexemes.specs.Outcome.{Fault, ◌>>=◌}
 use Rattle.granit_lexemes.specs.Pieces.{with_front}
 use Rattle.granit_lexemes.specs.PlainEvent.{PlainEvent, event_on, StreamStart}
+use Rattle.granit_machine.proofs.ClosingLemmas.{FeedGiven}
 use Rattle.granit_machine.specs.Frames.{ParserState, parser_start}
 use Rattle.granit_machine.specs.Laid.{Laid}
 use Rattle.granit_machine.specs.Lexing.{FlaggedItem, flagged, lex}
@@ -28,14 +29,11 @@ use Rattle.granit_invariants.proofs.SameOptions.{feed_all_same, lex_same}
 
 -- ---- one item
 
-abbrev pub FeedGiven : Type 0
-FeedGiven = Result (List PlainEvent × ParserState) Fault
-
 abbrev pub FedBy : OptionsData → FeedGiven → FeedGiven → Type 0
 FedBy o (Ok x) r = r ≡ Ok (but_comments x.0, quiet o x.1)
 FedBy o (Err f) r = (f.kind ≡ TooManyComments) ⊎ (r ≡ Err f)
 
-abbrev handed : Stepped → FeedGiven
+abbrev pub handed : Stepped → FeedGiven
 handed r = r >>= λ q. Ok (q.given, record q { given = [] })
 
 handed_by : (o : OptionsData) (r s : Stepped) → LexemeFitsBy o r s → FedBy o (handed r) (handed s)
@@ -50,7 +48,7 @@ unfolding feed
 lexeme_fed o l b next line p = let x = lexeme_fits o (token_of b l) next line p in handed_by o _ _ x.says
 
 -- an item leaves no event behind that isn't given
-abbrev CleanFed : FeedGiven → Type 0
+abbrev pub CleanFed : FeedGiven → Type 0
 CleanFed (Ok x) = x.1.given ≡ []
 CleanFed (Err f) = Unit {0}
 
@@ -58,7 +56,7 @@ clean_handed : (r : Stepped) → CleanFed (handed r)
 clean_handed (Ok q) = refl
 clean_handed (Err f) = tt
 
-clean_fed : (o : OptionsData) (i : FlaggedItem) (next : Option ℕ) (p : ParserState) → CleanFed (feed o i next p)
+pub clean_fed : (o : OptionsData) (i : FlaggedItem) (next : Option ℕ) (p : ParserState) → CleanFed (feed o i next p)
 unfolding feed
 clean_fed o i next p = clean_handed (take_item o i.item i.begins_key next p)
 
@@ -113,7 +111,7 @@ abbrev AllFed : OptionsData → List FlaggedItem → Type 0
 AllFed o is =
     (p : ParserState) → p.given ≡ [] → FedBy o (feed_all o is p) (feed_all o (asked_items false is) (quiet o p))
 
-abbrev then_feed : OptionsData → List FlaggedItem → FeedGiven → FeedGiven
+abbrev pub then_feed : OptionsData → List FlaggedItem → FeedGiven → FeedGiven
 then_feed o is r = r >>= λ x. with_front x.0 (feed_all o is x.1)
 
 lexeme_then : (o : OptionsData) (is : List FlaggedItem) (r s : FeedGiven) → FedBy o r s → CleanFed r → AllFed o is →

@@ -14,6 +14,7 @@ use Rattle.granit_lexemes.specs.Outcome.{Fault, fault_at, ◌>>=◌}
 use Rattle.granit_lexemes.specs.Pieces.{with_front}
 use Rattle.granit_lexemes.specs.PlainEvent as events
 use Rattle.granit_lexemes.specs.PlainEvent.{PlainEvent, EventKind, is_note}
+use Rattle.granit_machine.proofs.ClosingLemmas.{FeedGiven}
 use Rattle.granit_machine.specs.Closing.{close}
 use Rattle.granit_machine.specs.Frames.{Frame, Waiting, ParserState}
 use Rattle.granit_machine.specs.Giving.{null_at}
@@ -26,7 +27,7 @@ use Rattle.granit_invariants.specs.CommentEvents.{comment_event, comment_events,
 use Rattle.granit_invariants.specs.CommentPlaces.{IsAnchor, AreAnchors, StartsSequence, StandsBehind, directly}
 use Rattle.granit_invariants.specs.CommentPlaces.{behind_empty, before_start, StandsAmong, tail_event}
 use Rattle.granit_invariants.specs.Quiet.{but_comments, quiet, waits_alone}
-use Rattle.granit_invariants.proofs.CommentLaws.{FedBy, CommentFed, lexeme_fed, comment_fed}
+use Rattle.granit_invariants.proofs.CommentLaws.{FedBy, CommentFed, lexeme_fed, comment_fed, then_feed, handed}
 use Rattle.granit_invariants.proofs.GrowSteps.{full, MayBegin, EndsWith, Base, Grown, GrowsBy, dash_tail}
 use Rattle.granit_invariants.proofs.GrowStream.{token_grows}
 use Rattle.granit_invariants.proofs.Quieting.{but_append, untold_last}
@@ -34,15 +35,13 @@ use Rattle.granit_invariants.proofs.RoomSteps.{Calm, CalmBy, room_by, FreshBy, L
 use Rattle.granit_invariants.proofs.RoomStream.{token_leaves}
 use Rattle.granit_invariants.proofs.TellStream.{items_told}
 use Rattle.granit_invariants.proofs.Telling.{only_append}
-use Rattle.granit_invariants.proofs.RowRuns.{FeedGiven, of_lexeme, asked_append}
+use Rattle.granit_invariants.proofs.RowRuns.{of_lexeme, asked_append}
+use Rattle.granit_invariants.proofs.RoomSteps.{calm_by}
 
 -- ---- one item in front of others
 
 abbrev of_comment : CommentRead → Bool → FlaggedItem
 of_comment c b = record { item = OfComment c; begins_key = b }
-
-abbrev then_feed : OptionsData → List FlaggedItem → FeedGiven → FeedGiven
-then_feed o is r = r >>= λ x. with_front x.0 (feed_all o is x.1)
 
 record Fed (o : OptionsData) (others : List FlaggedItem) (r : FeedGiven) (es : List PlainEvent)
     (q : ParserState) : Type 0 where
@@ -81,9 +80,6 @@ data Holds (e : PlainEvent) (p : ParserState) (given : List PlainEvent) (q : Par
       Holds e p given q
   is_held : (w v : Waiting) → p.waiting ≡ Some w → given ≡ p.given → q.waiting ≡ Some v → v.at ≡ w.at →
       v.held ≡ w.held ++ e ∷ [] → q.frames ≡ p.frames → q.given ≡ [] → Holds e p given q
-
-abbrev handed : Stepped → FeedGiven
-handed r = r >>= λ q. Ok (q.given, record q { given = [] })
 
 handed_same : (p : ParserState) (given : List PlainEvent) (q : ParserState) → handed (Ok p) ≡ Ok (given, q) →
     (given ≡ p.given) × (q ≡ record p { given = [] })
@@ -177,10 +173,6 @@ record Settled (p : ParserState) : Type 0 where
   clean : p.given ≡ []
   calm : Calm p
   silent : but_comments (held_of p.waiting) ≡ []
-
-calm_by : (room : Result ℕ Fault) (fs : List Frame) (w : Option Waiting) → FreshBy room fs w → CalmBy fs w
-calm_by room fs None h = tt
-calm_by room fs (Some w) h = h.0
 
 none_held : (room : Result ℕ Fault) (fs : List Frame) (w : Option Waiting) → FreshBy room fs w → held_of w ≡ []
 none_held room fs None h = refl

@@ -1,6 +1,7 @@
 -- Behind the end of a text no comment is held, so all comments of a text are told.
 use Rattle.std.proofs.Common.{◌≡◌, ℕ, ◌||◌, ◌&&◌, not, Bool, true, false, List, [], ◌∷◌, ◌++◌, Option, Some, None}
 use Rattle.std.proofs.Common.{Result, Ok, Err, refl, sym, ap, ap₂, subst, ◌∙◌}
+use Rattle.std.proofs.lemmas.Bool.{or_parts}
 use Rattle.std.specs.Prelude.{if◌then◌else◌, is_none}
 use Rattle.std.proofs.lemmas.List.{append-nil}
 use Rattle.granit_base.specs.Place.{Mark}
@@ -16,6 +17,9 @@ use Rattle.granit_lexemes.specs.PlainEvent.{PlainEvent, StreamStart, event_at, e
 use Rattle.granit_language.specs.Reached.{Reads, of_comment, of_lexeme, ReadWhole, whole_ends, whole_stops}
 use Rattle.granit_language.specs.Reached.{whole_goes_on}
 use Rattle.granit_language.specs.Standing.{Given, GivenOne}
+use Rattle.granit_machine.proofs.ClosingLemmas.{every_frame_ends, FeedGiven}
+use Rattle.granit_machine.proofs.NoneWaits.{flush_none_by}
+use Rattle.granit_machine.proofs.SortLemmas.{end_kind_is}
 use Rattle.granit_machine.specs.Closing.{goes_on_by_kind, goes_on_with, is_behind_pair, is_behind_question, ends_top}
 use Rattle.granit_machine.specs.Closing.{close_turn, depth, close}
 use Rattle.granit_machine.specs.FlowSteps.{at_entry, behind_entry_of, in_flow_sequence, in_flow_mapping_by}
@@ -25,7 +29,7 @@ use Rattle.granit_machine.specs.Frames.{BehindQuestion, AtValue, BehindAlone, Be
 use Rattle.granit_machine.specs.Frames.{BlockSequence, BlockMapping, FlowSequence, FlowMapping, FlowPair, DocumentStage}
 use Rattle.granit_machine.specs.Frames.{Fresh, Directives, Inside, BehindRoot, Between, Waiting, ParserState}
 use Rattle.granit_machine.specs.Frames.{parser_start}
-use Rattle.granit_machine.specs.Giving.{flush_held, give}
+use Rattle.granit_machine.specs.Giving.{give}
 use Rattle.granit_machine.specs.Laid.{Laid}
 use Rattle.granit_machine.specs.LexemeSort.{QuoteSign, LexemeSort, Placed}
 use Rattle.granit_machine.specs.Lexing.{FlaggedItem, Flagging, is_nearest, flag_lexeme, flag_item, flagging, flagged}
@@ -39,13 +43,13 @@ use Rattle.granit_machine.specs.ReaderState.{ReaderState, reader_start}
 use Rattle.granit_machine.specs.StreamSteps.{behind_directives, when_fresh, when_between, end_document, behind_root}
 use Rattle.granit_machine.specs.StreamSteps.{outside}
 use Rattle.granit_machine.specs.TokenSort.{TokenSort, OfStream, Token, token_of, token_sort, token_column}
-use Rattle.granit_machine.specs.TokenSort.{column_of_token, is_bare_colon, is_dash_token, is_in_column, is_key_token}
+use Rattle.granit_machine.specs.TokenSort.{is_bare_colon, is_dash_token, is_in_column, is_key_token}
 use Rattle.granit_machine.specs.TokenSort.{begins_node, begins_pair, ends_entry, ends_frame}
 use Rattle.granit_reading.proofs.WholeLaw.{lexed_whole}
 use Rattle.granit_invariants.specs.CommentEvents.{only_comments, held_of, comment_events}
 use Rattle.granit_invariants.specs.Quiet.{asking}
 use Rattle.granit_invariants.proofs.CommentLaws.{Lexed, answer_to, run_same}
-use Rattle.granit_invariants.proofs.TellStream.{FeedGiven, Closed, all_closed, items_told}
+use Rattle.granit_invariants.proofs.TellStream.{Closed, all_closed, items_told}
 
 -- ---- steps behind which nothing waits
 
@@ -71,12 +75,8 @@ settles_then : (r : Stepped) (f : ParserState → Stepped) → Settles r → ((q
 settles_then (Ok q) f t h = h q t.says
 settles_then (Err e) f t h = settles_err e
 
-flushed_by : (w : Option Waiting) (p : ParserState) → (flush_held w (record p { waiting = w })).waiting ≡ None
-flushed_by None p = refl
-flushed_by (Some w) p = refl
-
 gives_none : (e : PlainEvent) (p : ParserState) → (give e p).waiting ≡ None
-gives_none e p = flushed_by p.waiting p
+gives_none e p = flush_none_by p.waiting p
 
 -- ---- the end of a text
 
@@ -127,20 +127,9 @@ stream_in_pair o t AtValue p n = settles_err _
 stream_in_pair o t BehindAlone p n = settles_err _
 stream_in_pair o t BehindPair p n = settles_err _
 
-first_false : (a b : Bool) → (a || b) ≡ false → a ≡ false
-first_false true b e = absurd cc
-first_false false b e = refl
-
-second_false : (a b : Bool) → (a || b) ≡ false → b ≡ false
-second_false true b e = absurd cc
-second_false false b e = e
-
 asked_false : (b : Bool) → (b && true) ≡ false → b ≡ true → ⊥
 asked_false true e f = cc
 asked_false false e f = cc
-
-ends_there : (t : Token) (column : ℕ) → t.sort ≡ OfStream → ends_frame (token_column t) column ≡ true
-ends_there t column e = ap (λ sort. ends_frame (column_of_token sort t.lexeme.start.place.column) column) e
 
 properties_end :
     (right in_flow indentless : Bool) (q : NodeProperties) (sort : TokenSort) (kind : LexemeKind) → sort ≡ OfStream →
@@ -156,7 +145,7 @@ ends_properties : (t : Token) (q : NodeProperties) (fs : List Frame) → IsEndTo
 unfolding goes_on_with
 ends_properties t q fs s = properties_end _ t.lexeme.in_flow _ q t.sort t.lexeme.kind s.sort s.kind
 
-not_both : (b : Bool) → b ≡ false → not b ≡ false → ⊥
+pub not_both : (b : Bool) → b ≡ false → not b ≡ false → ⊥
 not_both true e f = cc
 not_both false e f = cc
 
@@ -167,11 +156,11 @@ end_in o (Root explicit ∷ fs) t p s e = settles_else (begins_node t.sort) _ _ 
 end_in o (WithProperties q ∷ fs) t p s e = absurd (not_both (goes_on_with t q fs) (ends_properties t q fs s) e)
 end_in o (BlockSequence column indentless ∷ fs) t p s e =
     absurd
-    (let a = first_false (ends_frame (token_column t) column)
+    (let a = (or_parts (ends_frame (token_column t) column)
     ((indentless && not (is_dash_token t.sort && is_in_column (token_column t) column))
-    && (is_none p.waiting || (is_in_column (token_column t) column && begins_pair t.sort))) e in
-    let b = ends_there t column s.sort in cc (a, b))
-end_in o (BlockMapping column stage ∷ fs) t p s e = absurd (let b = ends_there t column s.sort in cc (e, b))
+    && (is_none p.waiting || (is_in_column (token_column t) column && begins_pair t.sort))) e).0 in
+    let b = every_frame_ends t column s.sort in cc (a, b))
+end_in o (BlockMapping column stage ∷ fs) t p s e = absurd (let b = every_frame_ends t column s.sort in cc (e, b))
 end_in o (FlowSequence b ∷ fs) t p s e = end_in_sequence o t b p s.sort
 end_in o (FlowMapping single stage ∷ fs) t p s e = subst (λ sort. Settles
     (in_flow_mapping_by o t single stage sort p)) (sym s.sort) (stream_in_mapping o t single stage p)
@@ -179,8 +168,8 @@ end_in o (FlowPair stage ∷ fs) t p s e =
     subst (λ sort. Settles (in_flow_pair o t stage sort p)) (sym s.sort)
     (stream_in_pair o t stage p
     (asked_false (is_behind_question stage)
-    (subst (λ sort. (is_behind_question stage && not (is_bare_colon sort)) ≡ false) s.sort (second_false
-    (ends_entry t.sort || is_behind_pair stage) (is_behind_question stage && not (is_bare_colon t.sort)) e))))
+    (subst (λ sort. (is_behind_question stage && not (is_bare_colon sort)) ≡ false) s.sort (or_parts
+    (ends_entry t.sort || is_behind_pair stage) (is_behind_question stage && not (is_bare_colon t.sort)) e).1)))
 
 closed_ends :
     (o : OptionsData) (t : Token) (p : ParserState) (r : FeedGiven) → IsEndToken t → Closed t p r →
@@ -278,13 +267,9 @@ items_behind (x ∷ xs) more e = item_behind x (flagging (xs ++ more)) (items_be
 abbrev IsLast : List Item → Type 0
 IsLast items = EndsText (flagged items)
 
-end_kind : (kind : LexemeKind) → is_end_kind kind ≡ true → kind ≡ StreamEnd
-end_kind StreamEnd e = refl
-end_kind kind e = absurd cc
-
 given_one : (o : OptionsData) (ends : Bool) (sort : LexemeSort) (h : Here) (l : Laid) (items : List Item)
     (after : ReaderState) → GivenOne o ends sort h l items after → is_end items ≡ true → IsLast items
-given_one o ends sort h l (OfLexeme x ∷ []) after p e = end_kind x.kind e
+given_one o ends sort h l (OfLexeme x ∷ []) after p e = end_kind_is x.kind e
 given_one o ends sort h l items after p e = absurd p
 
 quoted_goes_on : (items more : List Item) (x : Lexeme) → items ≡ OfLexeme x ∷ more → is_end_kind x.kind ≡ false →

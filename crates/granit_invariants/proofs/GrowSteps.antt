@@ -18,6 +18,7 @@ use Rattle.granit_lexemes.specs.Outcome.{Fault, ◌>>=◌}
 use Rattle.granit_lexemes.specs.PlainEvent as events
 use Rattle.granit_lexemes.specs.PlainEvent.{PlainEvent, PlainTag, EventKind, event_at}
 use Rattle.granit_lexemes.specs.Source.{Source}
+use Rattle.granit_machine.proofs.NoneWaits.{flush_none}
 use Rattle.granit_machine.specs.BlockSteps.{in_sequence, mapping_at, mapping_colon, bare_colon_in_mapping, next_pair}
 use Rattle.granit_machine.specs.BlockSteps.{behind_indicator, at_block_key, behind_block_key, in_mapping, takes_node}
 use Rattle.granit_machine.specs.FlowSteps.{close_flow, flow_at, flow_colon, begin_pair, at_entry, behind_entry_of}
@@ -37,12 +38,12 @@ use Rattle.granit_machine.specs.NodeSteps.{Stepped, alias_by, tag_prefix, tagged
 use Rattle.granit_machine.specs.NodeSteps.{known_prefix}
 use Rattle.granit_machine.specs.NodeSteps.{NextEntry, NewSequence, IndentlessSequence, dash_room, give_tail}
 use Rattle.granit_machine.specs.NodeSteps.{token_number, take_dash, first_dash, open_flow, bare_by, bare, node_by, node}
-use Rattle.granit_machine.specs.TokenSort.{TokenSort, BeginsKey, BeginsNode, DashToken, QuestionToken, BareColon}
+use Rattle.granit_machine.specs.TokenSort.{TokenSort, BeginsKey, BeginsNode, QuestionToken, BareColon}
 use Rattle.granit_machine.specs.TokenSort.{KeyedColon, CommaToken, SequenceCloser, MappingCloser, Token, is_dash_token}
 use Rattle.granit_machine.specs.TokenSort.{token_column, is_in_column, is_right_of, begins_node, begins_pair}
+use Rattle.granit_machine.proofs.ClosingLemmas.{no_dash_pair}
 use Rattle.granit_invariants.specs.CommentEvents.{held_of, comment_event}
 use Rattle.granit_invariants.specs.CommentPlaces.{AreAnchors, SequenceStarted}
-use Rattle.granit_invariants.proofs.RoomSteps.{flush_none}
 
 -- ---- what a step adds
 
@@ -613,10 +614,6 @@ next_pair_grows o t column stage BeginsKey p h =
     grows_from (TailOf t) p q (bare o t q) (entry_grown t column AtKey p) (bare_mores o t q)
 next_pair_grows o t column stage QuestionToken p h = plainly t p _ h (entry_grown t column AtQuestion p)
 next_pair_grows o t column stage sort p h = plainly t p _ h (bare_colon_grown o t column stage p)
-
-no_dash_pair : (sort : TokenSort) → begins_pair sort ≡ true → is_dash_token sort ≡ false
-no_dash_pair DashToken e = absurd cc
-no_dash_pair sort e = refl
 
 behind_indicator_grows : (o : OptionsData) (t : Token) (column : ℕ) (stage : PairStage) (p : ParserState) →
     TailSorted t →

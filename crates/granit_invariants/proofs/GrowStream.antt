@@ -1,18 +1,19 @@
 -- What a lexeme gives stands behind what is held, or behind the empty node that waits and what is held.
-use Rattle.std.proofs.Common.{◌≡◌, ℕ, ◌==◌, ◌||◌, ◌&&◌, not, Bool, true, false, List, [], ◌∷◌, Option, Some, None}
-use Rattle.std.proofs.Common.{Result, Ok, Err, ◌⊎◌, inl, inr, refl, sym, subst, ◌∙◌}
+use Rattle.std.proofs.Common.{◌≡◌, ℕ, ◌==◌, Bool, true, false, List, [], ◌∷◌, Option, Some, None}
+use Rattle.std.proofs.Common.{Ok, Err, ◌⊎◌, inl, inr, refl, sym, subst}
 use Rattle.std.specs.Prelude.{if◌then◌else◌}
 use Rattle.granit_error.specs.OptionsData.{OptionsData}
 use Rattle.granit_lexemes.specs.Comment.{CommentRead}
 use Rattle.granit_lexemes.specs.Lexeme as lexemes
 use Rattle.granit_lexemes.specs.Lexeme.{DirectiveKind, Version, TagPrefix, Reserved, LexemeKind, KeyStart, Lexeme}
-use Rattle.granit_lexemes.specs.Outcome.{Fault, ◌>>=◌}
+use Rattle.granit_lexemes.specs.Outcome.{◌>>=◌}
 use Rattle.granit_lexemes.specs.Pieces.{with_front, pieces}
 use Rattle.granit_lexemes.specs.PlainEvent as events
-use Rattle.granit_lexemes.specs.PlainEvent.{PlainEvent, PlainVersion, event_at}
+use Rattle.granit_lexemes.specs.PlainEvent.{PlainVersion, event_at}
 use Rattle.granit_lexemes.specs.declared.layout.Bracket.TheVariants.{Square, Curly}
 use Rattle.granit_scalars.proofs.Turning.{Carries, pieces_hold}
-use Rattle.granit_machine.proofs.ClosingLemmas.{close_turn-Shortens}
+use Rattle.granit_machine.proofs.ClosingLemmas.{close_turn-Shortens, FeedGiven}
+use Rattle.granit_machine.proofs.NoneWaits.{end_top_none}
 use Rattle.granit_machine.specs.Closing.{is_behind_question, ends_top, token_start, end_top, close_turn, depth, close}
 use Rattle.granit_machine.specs.Entries.{lookup_text}
 use Rattle.granit_machine.specs.Frames.{Frame, Root, WithProperties, BlockSequence, BlockMapping, FlowSequence}
@@ -25,15 +26,15 @@ use Rattle.granit_machine.specs.Parser.{take_in, take_token}
 use Rattle.granit_machine.specs.StreamSteps.{at_root, with_version, with_handle, open_document, with_directive}
 use Rattle.granit_machine.specs.StreamSteps.{behind_directives, bare_start, begin_document, without_directives}
 use Rattle.granit_machine.specs.StreamSteps.{when_fresh, when_between, end_document, behind_root, outside}
-use Rattle.granit_machine.specs.TokenSort.{TokenSort, BareColon, Token, token_sort, token_of, is_dash_token}
+use Rattle.granit_machine.specs.TokenSort.{Token, token_sort, token_of, is_dash_token}
 use Rattle.granit_machine.specs.TokenSort.{is_bare_colon, begins_node}
-use Rattle.granit_invariants.proofs.RoomSteps.{flush_none, finish_keeps, end_node_none, end_properties_none}
-use Rattle.granit_invariants.proofs.GrowSteps.{full, More, Grown, same, more_then, grown_of, grown_then, grown_on}
+use Rattle.granit_invariants.proofs.GrowSteps.{More, Grown, same, more_then, grown_of, grown_on}
 use Rattle.granit_invariants.proofs.GrowSteps.{Mores, mores_ok, mores_err, mores_if, mores_from, Grows, grows_of}
 use Rattle.granit_invariants.proofs.GrowSteps.{grows_err, give_full, give_more, flush_full, finish_full, end_node_grown}
 use Rattle.granit_invariants.proofs.GrowSteps.{end_properties_more, dash_tail, TailOf, node_mores, TailSorted}
 use Rattle.granit_invariants.proofs.GrowSteps.{in_sequence_grows, in_mapping_grows, in_flow_sequence_grows}
 use Rattle.granit_invariants.proofs.GrowSteps.{flow_mapping_grows, flow_pair_grows}
+use Rattle.granit_invariants.proofs.TellStream.{no_dash_colon, colon_left}
 
 -- ---- closing
 
@@ -44,14 +45,6 @@ end_top_grown o t p (Root explicit ∷ fs) =
     (more_then None p q (finish q) (give_more (null_at p.last_end) p) (same q (finish q) (finish_full q)))
 end_top_grown o t p (WithProperties q ∷ fs) = grown_of None p _ (end_properties_more o q p)
 end_top_grown o t p fs = end_node_grown t.lexeme.start (token_start t) p
-
-end_top_none : (o : OptionsData) (t : Token) (p : ParserState) (fs : List Frame) → (end_top o t p fs).waiting ≡ None
-end_top_none o t p (Root explicit ∷ fs) = finish_keeps (give (null_at p.last_end) p) ∙ flush_none p
-end_top_none o t p (WithProperties q ∷ fs) = end_properties_none o q p
-end_top_none o t p fs = end_node_none t.lexeme.start (token_start t) p
-
-abbrev FeedGiven : Type 0
-FeedGiven = Result (List PlainEvent × ParserState) Fault
 
 -- closing leaves the state, or one where nothing waits
 abbrev Shut : ParserState → ParserState → Type 0
@@ -191,16 +184,6 @@ outside_mores o Between t p = between_mores t.lexeme.kind t p refl
 outside_mores o Inside t p = mores_err (TailOf t) p _
 
 -- ---- a token at the open place
-
-no_dash_colon : (sort : TokenSort) → is_bare_colon sort ≡ true → is_dash_token sort ≡ false
-no_dash_colon BareColon e = refl
-no_dash_colon sort e = absurd cc
-
-colon_left : (a b c : Bool) → (a || (b && not c)) ≡ false → b ≡ true → c ≡ true
-colon_left true b c e f = absurd cc
-colon_left false true true e f = refl
-colon_left false true false e f = absurd cc
-colon_left false false c e f = absurd cc
 
 take_in_grows : (o : OptionsData) (fs : List Frame) (t : Token) (p : ParserState) → TailSorted t →
     ends_top t p fs ≡ false → Grows (TailOf t) p (take_in o fs t p)

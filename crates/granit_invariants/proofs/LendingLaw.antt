@@ -1,6 +1,7 @@
 -- A run where nothing is lent.
-use Rattle.std.proofs.Common.{◌≡◌, Bool, true, false, ◌&&◌, List, [], ◌∷◌, Option, Some, None, Result, Ok, inl, inr}
+use Rattle.std.proofs.Common.{◌≡◌, Bool, true, false, List, [], ◌∷◌, Option, Some, None, Result, Ok, inl, inr}
 use Rattle.std.proofs.Common.{◌⊎◌, refl, sym, ap, ap₂, ◌∙◌, subst, if◌then◌else◌}
+use Rattle.std.proofs.Math.Bool.{and-false}
 use Rattle.granit_base.specs.Place.{Mark}
 use Rattle.granit_base.specs.Written.{Written}
 use Rattle.granit_error.specs.OptionsData.{OptionsData}
@@ -14,10 +15,6 @@ use Rattle.granit_invariants.specs.Offsets.{is_empty_node, bare_text, bare_kind,
 use Rattle.granit_invariants.specs.Offsets.{bare_mark_of}
 use Rattle.granit_invariants.proofs.BareRun.{run_bare, runs_alike}
 
-none_lent : (b : Bool) → (b && false) ≡ false
-none_lent true = refl
-none_lent false = refl
-
 same_tab : (t : Option Mark) → bare_mark_of but_lending t ≡ t
 same_tab None = refl
 same_tab (Some m) = refl
@@ -26,7 +23,7 @@ lent_here : (h : Here) → bare_here but_lending h ≡ lending_nothing h
 lent_here h = ap₂ (λ (b : Bool) (t : Option Mark). let g : Here = record h {
   unread = record (h.unread) { lends = b };
   tab = t;
-} in g) (none_lent h.unread.lends) (same_tab h.tab)
+} in g) (and-false h.unread.lends) (same_tab h.tab)
 
 pub run_owned : (o : OptionsData) (h : Here)
     → run_from o (lending_nothing h) ≡ bare_answer but_lending (run_from o h)
@@ -41,12 +38,12 @@ lent_alike o g h e = runs_alike but_lending o g h (lent_here g ∙ e ∙ sym (le
 scalar_owned : (b : Bool) (text : Written)
     → ((if b then text else bare_text but_lending text).is_borrowed ≡ false) ⊎ (b ≡ true)
 scalar_owned true text = inr refl
-scalar_owned false text = inl (none_lent text.is_borrowed)
+scalar_owned false text = inl (and-false text.is_borrowed)
 
 kind_owned : (start end : Mark) (kind : EventKind) → OwnsText start end (bare_kind but_lending start end kind)
-kind_owned start end (events.Anchor n name) = none_lent name.is_borrowed
-kind_owned start end (events.UnresolvedAlias name) = none_lent name.is_borrowed
-kind_owned start end (events.Comment text placement) = none_lent text.is_borrowed
+kind_owned start end (events.Anchor n name) = and-false name.is_borrowed
+kind_owned start end (events.UnresolvedAlias name) = and-false name.is_borrowed
+kind_owned start end (events.Comment text placement) = and-false text.is_borrowed
 kind_owned start end (events.Scalar text style n tag) = scalar_owned (is_empty_node style start end) text
 kind_owned start end kind = tt
 

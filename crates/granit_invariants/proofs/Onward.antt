@@ -2,7 +2,6 @@
 use Rattle.std.proofs.Common.{◌≡◌, ℕ, zero, suc, ◌+◌, ◌<◌, ◌≤◌, Bool, true, false, List, [], ◌∷◌, ◌++◌, length, Option}
 use Rattle.std.proofs.Common.{Some, None, Ok, refl, ap, ◌∙◌, subst, arith, length-append}
 use Rattle.std.specs.Prelude.{if◌then◌else◌}
-use Rattle.granit_base.specs.Classes.{is_gap}
 use Rattle.granit_base.specs.Place.{ends_line, first}
 use Rattle.granit_blocks.proofs.BlockSpans.{block_reaches}
 use Rattle.granit_error.specs.OptionsData.{OptionsData}
@@ -20,7 +19,7 @@ use Rattle.granit_lexemes.specs.Comment.{CommentRead, StandsComment}
 use Rattle.granit_lexemes.specs.DirectiveExtent.{DirectiveLineEnds, AnswersDirective}
 use Rattle.granit_lexemes.specs.DirectiveExtent as lines
 use Rattle.granit_lexemes.specs.HeaderExtent.{LexemeTail, commented, uncommented}
-use Rattle.granit_lexemes.specs.Here.{Here, text_len, next_char, step}
+use Rattle.granit_lexemes.specs.Here.{Here, text_len, step}
 use Rattle.granit_lexemes.specs.LayoutData.{LayoutData}
 use Rattle.granit_lexemes.specs.Lexeme.{Lexeme, Item, OfLexeme, OfComment}
 use Rattle.granit_lexemes.specs.Moves.{steps, past_prefix_mark}
@@ -39,6 +38,7 @@ use Rattle.granit_machine.specs.LexemeSort.{PlainSign, LexemeSort, TextEnd, Star
 use Rattle.granit_machine.specs.LexemeSort.{DirectiveSign, Placed}
 use Rattle.granit_reading.proofs.Counting.{place_index}
 use Rattle.granit_reading.proofs.ReadAnswers.{by_answers, read_answers}
+use Rattle.granit_reading.proofs.ReadingLaw.{stops_there}
 use Rattle.granit_reading.proofs.Signs.{gap_text}
 use Rattle.granit_reading.proofs.SortAnswers.{sort_answers}
 use Rattle.granit_machine.specs.Reader.{is_end, lexeme_by, lexeme}
@@ -194,11 +194,6 @@ gap_on {h = h} (in_front_of_lexeme at g n t k) =
     let w : whole at ≡ whole h = gap_whole g.over in
     omega (arith, e, w)
 
--- behind a gap no gap begins
-no_gap : {o : OptionsData} {h : Here} {l : Laid} {t : ReaderState} → GapStands o h l None t
-    → is_gap (next_char t.here) ≡ false
-no_gap (in_front_of_lexeme at g n t k) = g.stops.0
-
 -- a comment with its gap
 pub comment_on : {o : OptionsData} {s at : ReaderState} {c : CommentRead} → GapStands o s.here s.laid (Some c) at
     → NoneOverdue o at → s.here.place.index < at.here.place.index
@@ -219,7 +214,7 @@ module _ (o : OptionsData) (s at behind : ReaderState) (sort : LexemeSort) (item
 
   shorter : is_end items ≡ false → text_len behind.here < text_len at.here
   shorter more = subst (ReadFits (text_len at.here)) lexeme_given
-      (lexeme-fits (text_len at.here) o at.here front (omega arith) (no_gap comes.gap)) more
+      (lexeme-fits (text_len at.here) o at.here front (omega arith) (stops_there comes.gap)) more
 
   -- a lexeme that isn't the end of the text
   pub lexeme_on : is_end items ≡ false → at.here.place.index < behind.here.place.index

@@ -1,6 +1,7 @@
 -- The placement of each comment is the declared one.
 use Rattle.std.proofs.Common.{◌≡◌, ℕ, suc, ◌==◌, ◌||◌, Bool, true, false, arith, List, [], ◌∷◌, ◌⊎◌, inl, inr, Option}
 use Rattle.std.proofs.Common.{Some, None, refl, sym, ◌∙◌, subst}
+use Rattle.std.proofs.lemmas.Bool.{eqb-true}
 use Rattle.std.specs.Prelude.{if◌then◌else◌, is_some}
 use Rattle.std.proofs.lemmas.Bool.Decides.{nat_tests}
 use Rattle.granit_base.specs.declared.style.Placement.{Placement}
@@ -102,9 +103,6 @@ nothing_or_line (i ∷ is) n h k = end_or_line i.item i.begins_key n h k
 
 -- ---- placements
 
-same_line : (n m : ℕ) → (n == m) ≡ true → n ≡ m
-same_line n m e = grind (arith, nat_tests)
-
 other_line : (n m : ℕ) → (n == m) ≡ false → n ≡ m → ⊥
 other_line n m e h = grind (arith, nat_tests)
 
@@ -112,7 +110,7 @@ line_placed : (c : CommentRead) (rest : List FlaggedItem) (n : ℕ) (v : Bool) �
     (n == suc c.source.end.place.line) ≡ v →
     NextOnLine n rest → PlacedAs c rest (if v then Above else Free)
 line_placed c rest n true r e h =
-    is_above r (subst (λ n. NextOnLine n rest) (same_line n (suc c.source.end.place.line) e) h)
+    is_above r (subst (λ n. NextOnLine n rest) (eqb-true n (suc c.source.end.place.line) e) h)
 line_placed c rest n false r e h = is_free n r h (other_line n (suc c.source.end.place.line) e)
 
 left_placed : (c : CommentRead) (rest : List FlaggedItem) (next : Option ℕ) → c.is_right ≡ false → SaysNext rest next →

@@ -1,6 +1,6 @@
 -- What closes, documents and comments do the same to a state without what comments left in it.
 use Rattle.std.proofs.Common.{◌⊎◌, inl, inr, ◌≡◌, ℕ, zero, suc, ◌==◌, ◌-◌, ◌&&◌, ◌||◌, Bool, true, false, List, [], ◌∷◌}
-use Rattle.std.proofs.Common.{◌++◌, inl, Option, Some, None, Result, Ok, Err, refl, sym, ap, subst, ◌∙◌}
+use Rattle.std.proofs.Common.{◌++◌, inl, Option, Some, None, Ok, Err, refl, sym, ap, subst, ◌∙◌}
 use Rattle.std.specs.Prelude.{not, if◌then◌else◌}
 use Rattle.granit_error.specs.FaultKind.{TooManyComments}
 use Rattle.granit_error.specs.OptionsData.{OptionsData}
@@ -10,6 +10,7 @@ use Rattle.granit_lexemes.specs.Outcome.{Fault, ◌>>=◌}
 use Rattle.granit_lexemes.specs.Pieces.{with_front, then_more, turns, pieces}
 use Rattle.granit_lexemes.specs.PlainEvent.{PlainEvent, PlainVersion, event_at, is_note}
 use Rattle.granit_lexemes.specs.Source.{Source}
+use Rattle.granit_machine.proofs.ClosingLemmas.{FeedGiven}
 use Rattle.granit_machine.specs.Closing.{goes_on_with, ends_top, token_start, end_top, Closing, close_turn, depth}
 use Rattle.granit_machine.specs.Closing.{close}
 use Rattle.granit_machine.specs.Frames.{Frame, Root, WithProperties, BlockSequence, BlockMapping, FlowSequence}
@@ -59,9 +60,6 @@ end_top_quiet o t p (Root explicit ∷ fs) = ap finish (null_quiet o p.last_end 
     ∙ finish_quiet o (give (null_at p.last_end) p)
 end_top_quiet o t p (WithProperties q ∷ fs) = end_properties_quiet o q p
 end_top_quiet o t p fs = end_node_quiet o t.lexeme.start (token_start t) p
-
-abbrev FeedGiven : Type 0
-FeedGiven = Result (List PlainEvent × ParserState) Fault
 
 abbrev quieted : OptionsData → FeedGiven → FeedGiven
 quieted o (Ok x) = Ok (x.0, quiet o x.1)
@@ -152,7 +150,7 @@ directives_fits o (lexemes.Directive d) t version p = directive_fits o t d versi
 directives_fits o lexemes.DocumentStart t version p = open_document_fits o t version p
 directives_fits o kind t version p = refuses o _
 
-bare_start_tells : (sort : TokenSort) (t : Token) → is_note (bare_start sort t).kind ≡ false
+pub bare_start_tells : (sort : TokenSort) (t : Token) → is_note (bare_start sort t).kind ≡ false
 bare_start_tells BeginsNode t = refl
 bare_start_tells sort t = refl
 

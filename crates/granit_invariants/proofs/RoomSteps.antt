@@ -1,6 +1,6 @@
 -- Behind each step of the parser nothing waits, or a node with all the room for comments that the options leave.
-use Rattle.std.proofs.Common.{◌≡◌, ℕ, ◌&&◌, Bool, true, false, List, [], ◌∷◌, ◌++◌, Option, Some, None, Result, Ok, Err}
-use Rattle.std.proofs.Common.{refl, sym, subst, ◌∙◌}
+use Rattle.std.proofs.Common.{◌≡◌, ℕ, ◌&&◌, Bool, true, false, List, [], ◌∷◌, Option, Some, None, Result, Ok, Err}
+use Rattle.std.proofs.Common.{refl, sym, subst}
 use Rattle.std.proofs.lemmas.Bool.{and_parts}
 use Rattle.std.specs.Prelude.{if◌then◌else◌, is_none, not, ◌||◌, nat_le}
 use Rattle.granit_base.specs.Place.{Mark}
@@ -12,30 +12,35 @@ use Rattle.granit_lexemes.specs.declared.layout.Bracket.{Bracket}
 use Rattle.granit_lexemes.specs.declared.layout.Bracket.TheVariants.{Square, Curly}
 use Rattle.granit_lexemes.specs.Lexeme.{LexemeKind}
 use Rattle.granit_lexemes.specs.Outcome.{Fault, ◌>>=◌}
-use Rattle.granit_lexemes.specs.PlainEvent.{PlainEvent, PlainTag, EventKind, event_at}
-use Rattle.granit_lexemes.specs.Source.{Source}
+use Rattle.granit_lexemes.specs.PlainEvent.{PlainTag, EventKind}
+use Rattle.granit_machine.proofs.ClosingLemmas.{flush_frames, tail_frames}
+use Rattle.granit_machine.proofs.NoneWaits.{flush_none, node_none, leaf_none, end_node_none}
 use Rattle.granit_machine.specs.BlockSteps.{in_sequence, mapping_at, mapping_colon, bare_colon_in_mapping, next_pair}
 use Rattle.granit_machine.specs.BlockSteps.{behind_indicator, at_block_key, behind_block_key, in_mapping, takes_node}
 use Rattle.granit_machine.specs.FlowSteps.{close_flow, flow_at, flow_colon, begin_pair, at_entry, behind_entry_of}
 use Rattle.granit_machine.specs.FlowSteps.{in_flow_sequence, in_flow_mapping_by, in_flow_pair}
 use Rattle.granit_machine.specs.Entries.{lookup_text}
 use Rattle.granit_machine.specs.Frames.{PairStage, BeforePair, AtKey, BehindKey, AtQuestion, BehindQuestion, AtValue}
-use Rattle.granit_machine.specs.Frames.{NodeProperties, Frame, Root, WithProperties, BlockSequence, BlockMapping}
+use Rattle.granit_machine.specs.Frames.{Frame, BlockSequence, BlockMapping}
 use Rattle.granit_machine.specs.Frames.{FlowSequence, FlowMapping, FlowPair, Waiting, ParserState}
-use Rattle.granit_machine.specs.Giving.{null_at, flush_held, flush, give, give_empty, properties_on, below_properties}
-use Rattle.granit_machine.specs.Giving.{tell_anchor, node_event}
-use Rattle.granit_machine.specs.NodeEnds.{finish_in, finish, owed, below, end_node, null_node, end_properties}
+use Rattle.granit_machine.specs.Giving.{null_at, flush, give, give_empty, below_properties}
+use Rattle.granit_machine.specs.NodeEnds.{owed}
 use Rattle.granit_machine.specs.NodeEnds.{empty_span, begin, begin_block, block_mapping, waits, with_top}
 use Rattle.granit_machine.specs.NodeEnds.{may_be_indentless, block_count}
 use Rattle.granit_machine.specs.NodeSteps.{Stepped, alias_by, tag_prefix, tagged, anchored, block_sequence, DashRole}
 use Rattle.granit_machine.specs.NodeSteps.{known_prefix}
 use Rattle.granit_machine.specs.NodeSteps.{NextEntry, NewSequence, IndentlessSequence, dash_room, give_tail}
 use Rattle.granit_machine.specs.NodeSteps.{token_number, take_dash, first_dash, open_flow, bare_by, bare, node_by, node}
-use Rattle.granit_machine.specs.TokenSort.{TokenSort, BeginsKey, BeginsNode, DashToken, QuestionToken, BareColon}
+use Rattle.granit_machine.specs.TokenSort.{TokenSort, BeginsKey, BeginsNode, QuestionToken, BareColon}
 use Rattle.granit_machine.specs.TokenSort.{KeyedColon, CommaToken, SequenceCloser, MappingCloser, Token, is_dash_token}
 use Rattle.granit_machine.specs.TokenSort.{token_column, is_in_column, is_right_of, begins_node, begins_pair}
 use Rattle.granit_lexemes.specs.PlainEvent as events
 use Rattle.granit_lexemes.specs.Lexeme as lexemes
+use Rattle.granit_machine.proofs.ClosingLemmas.{no_dash_pair}
+
+pub calm_by : (room : Result ℕ Fault) (fs : List Frame) (w : Option Waiting) → FreshBy room fs w → CalmBy fs w
+calm_by room fs None h = tt
+calm_by room fs (Some w) h = h.0
 
 -- ---- what waits
 
@@ -92,68 +97,6 @@ leaves_behind room (Err e) f h = leaves_err room e
 
 -- ---- giving
 
-flush_none_by : (w : Option Waiting) (p : ParserState) → (flush_held w (record p { waiting = w })).waiting ≡ None
-flush_none_by None p = refl
-flush_none_by (Some w) p = refl
-
-pub flush_none : (p : ParserState) → (flush p).waiting ≡ None
-flush_none p = flush_none_by p.waiting p
-
-flush_frames_by : (w : Option Waiting) (p : ParserState) → (flush_held w (record p { waiting = w })).frames ≡ p.frames
-flush_frames_by None p = refl
-flush_frames_by (Some w) p = refl
-
-pub flush_frames : (p : ParserState) → (flush p).frames ≡ p.frames
-flush_frames p = flush_frames_by p.waiting p
-
-anchor_keeps : (o : OptionsData) (a : Option (ℕ × Written × Source)) (p : ParserState) →
-    (tell_anchor o a p).waiting ≡ p.waiting
-anchor_keeps o None p = refl
-anchor_keeps o (Some a) p = on o.emit_anchor_events
-  where
-    on : (b : Bool) → (if b then record p {
-      given = p.given ++ event_at
-          (events.Anchor a.0 a.1) a.2 ∷ [];
-    } else p).waiting ≡ p.waiting
-    on true = refl
-    on false = refl
-
-pub node_none :
-    (o : OptionsData) (kind : ℕ → Option PlainTag → EventKind) (source : Source) (indent : Option ℕ) (p : ParserState) →
-    (node_event o kind source indent p).waiting ≡ None
-unfolding node_event
-node_none o kind source indent p =
-    let q = properties_on p.frames source.end in
-    anchor_keeps o q.anchor _ ∙ flush_none (record p { frames = below_properties p.frames })
-
-finish_keeps_by : (fs : List Frame) (p : ParserState) → (finish_in fs p).waiting ≡ p.waiting
-finish_keeps_by [] p = refl
-finish_keeps_by (Root explicit ∷ fs) p = refl
-finish_keeps_by (WithProperties q ∷ fs) p = refl
-finish_keeps_by (BlockSequence column indentless ∷ fs) p = refl
-finish_keeps_by (BlockMapping column stage ∷ fs) p = refl
-finish_keeps_by (FlowSequence behind_entry ∷ fs) p = refl
-finish_keeps_by (FlowMapping single stage ∷ fs) p = refl
-finish_keeps_by (FlowPair stage ∷ fs) p = refl
-
-pub finish_keeps : (p : ParserState) → (finish p).waiting ≡ p.waiting
-finish_keeps p = finish_keeps_by p.frames p
-
-pub leaf_none :
-    (o : OptionsData) (kind : ℕ → Option PlainTag → EventKind) (source : Source) (indent : Option ℕ) (p : ParserState) →
-    (finish (node_event o kind source indent p)).waiting ≡ None
-leaf_none o kind source indent p =
-    finish_keeps (node_event o kind source indent p) ∙ node_none o kind source indent p
-
-pub end_node_none : (m : Mark) (source : Source) (p : ParserState) → (end_node m source p).waiting ≡ None
-unfolding end_node
-end_node_none m source p = finish_keeps _ ∙ flush_none (record (owed m p) { frames = below (owed m p).frames })
-
-pub end_properties_none : (o : OptionsData) (q : NodeProperties) (p : ParserState) →
-    (end_properties o q p).waiting ≡ None
-unfolding end_properties
-end_properties_none o q p = leaf_none o (null_node q) (empty_span q.end) None p
-
 begin_block_leaves : (room : Result ℕ Fault) (o : OptionsData) (kind : ℕ → Option PlainTag → EventKind) (m : Mark)
     (f : Frame) (p : ParserState) → Leaves room (begin_block o kind m f p)
 unfolding begin_block
@@ -165,10 +108,6 @@ begin_block_leaves room o kind m f p =
 pub waits_leaves : (room : Result ℕ Fault) (m : Mark) (n : ℕ) (p : ParserState) → MayWait p.frames → room ≡ Ok n →
     Leaves room (Ok (waits m n p))
 waits_leaves room m n p h e = record { says = (subst MayWait (sym (flush_frames p)) h, e, refl) }
-
-tail_frames : (tail : Option CommentRead) (p : ParserState) → (give_tail tail p).frames ≡ p.frames
-tail_frames None p = refl
-tail_frames (Some c) p = flush_frames p
 
 -- ---- a `-`
 
@@ -306,10 +245,6 @@ next_pair_leaves o t column stage BeginsKey p h = bare_leaves o t (mapping_at co
 next_pair_leaves o t column stage QuestionToken p h =
     leaves_none _ (mapping_at column AtQuestion (owed t.lexeme.start p)) (flush_none (owed t.lexeme.start p))
 next_pair_leaves o t column stage sort p h = bare_colon_leaves o t column stage p h
-
-no_dash_pair : (sort : TokenSort) → begins_pair sort ≡ true → is_dash_token sort ≡ false
-no_dash_pair DashToken e = absurd cc
-no_dash_pair sort e = refl
 
 behind_indicator_leaves : (o : OptionsData) (t : Token) (column : ℕ) (stage : PairStage) (p : ParserState) →
     RoomSorted o t → Leaves (RoomBehind o t) (behind_indicator o t column stage p)

@@ -1,6 +1,6 @@
 -- What is fed with items: where a node waits, the room for comments is what those in a row behind its `-` or `:` leave.
 use Rattle.std.proofs.Common.{◌≡◌, ℕ, ◌==◌, Bool, true, false, List, [], ◌∷◌, Option, Some, None, Result, Ok, Err, refl}
-use Rattle.std.proofs.Common.{sym, subst, ◌∙◌}
+use Rattle.std.proofs.Common.{sym, subst}
 use Rattle.std.specs.Prelude.{if◌then◌else◌}
 use Rattle.granit_error.specs.OptionsData.{OptionsData}
 use Rattle.granit_lexemes.specs.Lexeme as lexemes
@@ -8,16 +8,17 @@ use Rattle.granit_lexemes.specs.Lexeme.{DirectiveKind, Version, TagPrefix, Reser
 use Rattle.granit_lexemes.specs.Outcome.{Fault, ◌>>=◌}
 use Rattle.granit_lexemes.specs.Pieces.{with_front, pieces}
 use Rattle.granit_lexemes.specs.PlainEvent as events
-use Rattle.granit_lexemes.specs.PlainEvent.{PlainEvent, PlainVersion, event_at}
+use Rattle.granit_lexemes.specs.PlainEvent.{PlainVersion, event_at}
 use Rattle.granit_lexemes.specs.declared.layout.Bracket.TheVariants.{Square, Curly}
 use Rattle.granit_scalars.proofs.Turning.{Carries, pieces_hold}
-use Rattle.granit_machine.proofs.ClosingLemmas.{close_turn-Shortens}
-use Rattle.granit_machine.specs.Closing.{ends_top, token_start, end_top, close_turn, depth, close}
+use Rattle.granit_machine.proofs.ClosingLemmas.{close_turn-Shortens, FeedGiven}
+use Rattle.granit_machine.proofs.NoneWaits.{flush_none, end_top_none}
+use Rattle.granit_machine.specs.Closing.{ends_top, end_top, close_turn, depth, close}
 use Rattle.granit_machine.specs.Entries.{lookup_text}
 use Rattle.granit_machine.specs.Frames.{Frame, Root, WithProperties, BlockSequence, BlockMapping, FlowSequence}
 use Rattle.granit_machine.specs.Frames.{FlowMapping, FlowPair, DocumentStage, Fresh, Directives, Inside, BehindRoot}
 use Rattle.granit_machine.specs.Frames.{Between, Waiting, ParserState}
-use Rattle.granit_machine.specs.Giving.{null_at, give}
+use Rattle.granit_machine.specs.Giving.{give}
 use Rattle.granit_machine.specs.NodeEnds.{empty_span}
 use Rattle.granit_machine.specs.Parser.{take_in, take_token}
 use Rattle.granit_machine.specs.StreamSteps.{at_root, with_version, declared, with_handle, open_document}
@@ -26,19 +27,11 @@ use Rattle.granit_machine.specs.StreamSteps.{behind_directives, begin_document, 
 use Rattle.granit_machine.specs.StreamSteps.{when_between, end_document, behind_root, outside}
 use Rattle.granit_machine.specs.TokenSort.{Token, token_sort, token_of, is_dash_token, begins_node}
 use Rattle.granit_invariants.proofs.RoomSteps.{Calm, CalmBy, room_by, RoomBehind, Leaves, leaves_none, leaves_err}
-use Rattle.granit_invariants.proofs.RoomSteps.{leaves_if, flush_none, finish_keeps, end_node_none, end_properties_none}
+use Rattle.granit_invariants.proofs.RoomSteps.{leaves_if}
 use Rattle.granit_invariants.proofs.RoomSteps.{node_leaves, RoomSorted, in_sequence_leaves, in_mapping_leaves}
 use Rattle.granit_invariants.proofs.RoomSteps.{in_flow_sequence_leaves, flow_mapping_leaves, flow_pair_leaves}
 
 -- ---- closing
-
-end_top_none : (o : OptionsData) (t : Token) (p : ParserState) (fs : List Frame) → (end_top o t p fs).waiting ≡ None
-end_top_none o t p (Root explicit ∷ fs) = finish_keeps (give (null_at p.last_end) p) ∙ flush_none p
-end_top_none o t p (WithProperties q ∷ fs) = end_properties_none o q p
-end_top_none o t p fs = end_node_none t.lexeme.start (token_start t) p
-
-abbrev FeedGiven : Type 0
-FeedGiven = Result (List PlainEvent × ParserState) Fault
 
 -- closing leaves a state where a node waits in frames alone
 abbrev StaysCalm : ParserState → FeedGiven → Type 0

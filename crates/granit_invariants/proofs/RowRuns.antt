@@ -12,6 +12,7 @@ use Rattle.granit_lexemes.specs.Lexeme.{LexemeKind, Lexeme, Item, OfLexeme, OfCo
 use Rattle.granit_lexemes.specs.Outcome.{Fault, fault_at, ◌>>=◌}
 use Rattle.granit_lexemes.specs.Pieces.{with_front}
 use Rattle.granit_lexemes.specs.PlainEvent.{PlainEvent, is_note}
+use Rattle.granit_machine.proofs.ClosingLemmas.{FeedGiven}
 use Rattle.granit_machine.specs.Frames.{Frame, Waiting, ParserState}
 use Rattle.granit_machine.specs.Lexing.{FlaggedItem}
 use Rattle.granit_machine.specs.Machine.{untailed, asked_items, feed_all}
@@ -19,6 +20,7 @@ use Rattle.granit_machine.specs.NodeSteps.{Stepped, dash_room}
 use Rattle.granit_machine.specs.Closing.{close}
 use Rattle.granit_machine.specs.Parser.{next_line, take_token, placed, hold, take_tail, feed}
 use Rattle.granit_machine.specs.TokenSort.{token_of}
+use Rattle.granit_invariants.proofs.CommentLaws.{then_feed, handed}
 use Rattle.granit_invariants.specs.CommentEvents.{comment_event}
 use Rattle.granit_invariants.specs.RefusedRows.{RefusesRow}
 use Rattle.granit_language.specs.CommentRows.{AreComments, tail_comments}
@@ -29,14 +31,8 @@ use Rattle.granit_invariants.proofs.QuietStream.{token_fits}
 use Rattle.granit_invariants.proofs.RoomSteps.{Calm, CalmBy, room_by, FreshBy, LeavesBy}
 use Rattle.granit_invariants.proofs.RoomStream.{token_leaves}
 
-abbrev pub FeedGiven : Type 0
-FeedGiven = Result (List PlainEvent × ParserState) Fault
-
 abbrev pub of_lexeme : Lexeme → Bool → FlaggedItem
 of_lexeme l b = record { item = OfLexeme l; begins_key = b }
-
-abbrev handed : Stepped → FeedGiven
-handed r = r >>= λ q. Ok (q.given, record q { given = [] })
 
 -- ---- lexemes without their tails are fed alike before any line
 
@@ -57,9 +53,6 @@ untailed_fed : (o : OptionsData) (b : Bool) (l : Lexeme) (line : Option ℕ) (p 
 unfolding feed
 untailed_fed o b l line p = ap handed (no_tail l.kind line (bare_step o b l p))
 
-abbrev then_all : OptionsData → List FlaggedItem → FeedGiven → FeedGiven
-then_all o ys r = r >>= λ x. with_front x.0 (feed_all o ys x.1)
-
 front_none : (r : FeedGiven) → with_front [] r ≡ r
 front_none (Ok x) = refl
 front_none (Err f) = refl
@@ -69,39 +62,39 @@ front_front es ds (Ok x) = ap (λ gs. let r : FeedGiven = Ok (gs, x.1) in r) (sy
 front_front es ds (Err f) = refl
 
 front_then : (o : OptionsData) (es : List PlainEvent) (ys : List FlaggedItem) (r : FeedGiven) →
-    with_front es (then_all o ys r) ≡ then_all o ys (with_front es r)
+    with_front es (then_feed o ys r) ≡ then_feed o ys (with_front es r)
 front_then o es ys (Ok x) = front_front es x.0 (feed_all o ys x.1)
 front_then o es ys (Err f) = refl
 
 then_then : (o : OptionsData) (xs ys : List FlaggedItem) (r : FeedGiven) →
-    ((p : ParserState) → feed_all o (asked_items false (xs ++ ys)) p ≡ then_all o (asked_items false ys)
+    ((p : ParserState) → feed_all o (asked_items false (xs ++ ys)) p ≡ then_feed o (asked_items false ys)
     (feed_all o (asked_items false xs) p)) →
-    then_all o (asked_items false (xs ++ ys)) r ≡ then_all o (asked_items false ys)
-    (then_all o (asked_items false xs) r)
+    then_feed o (asked_items false (xs ++ ys)) r ≡ then_feed o (asked_items false ys)
+    (then_feed o (asked_items false xs) r)
 then_then o xs ys (Ok x) h =
     ap (with_front x.0) (h x.1) ∙ front_then o x.0 (asked_items false ys) (feed_all o (asked_items false xs) x.1)
 then_then o xs ys (Err f) h = refl
 
 lexeme_asked : (o : OptionsData) (l : Lexeme) (b : Bool) (is : List FlaggedItem) (p : ParserState) →
     feed_all o (asked_items false (of_lexeme l b ∷ is)) p
-    ≡ then_all o (asked_items false is) (handed (bare_step o b l p))
+    ≡ then_feed o (asked_items false is) (handed (bare_step o b l p))
 lexeme_asked o l b is p =
-    ap (then_all o (asked_items false is)) (untailed_fed o b l (next_line (asked_items false is)) p)
+    ap (then_feed o (asked_items false is)) (untailed_fed o b l (next_line (asked_items false is)) p)
 
 append_by : (o : OptionsData) (x : Item) (b : Bool) (xs ys : List FlaggedItem) →
-    ((p : ParserState) → feed_all o (asked_items false (xs ++ ys)) p ≡ then_all o (asked_items false ys)
+    ((p : ParserState) → feed_all o (asked_items false (xs ++ ys)) p ≡ then_feed o (asked_items false ys)
     (feed_all o (asked_items false xs) p)) →
     (p : ParserState) →
     feed_all o (asked_items false (record { item = x; begins_key = b } ∷ (xs ++ ys))) p
-    ≡ then_all o (asked_items false ys) (feed_all o (asked_items false (record { item = x; begins_key = b } ∷ xs)) p)
+    ≡ then_feed o (asked_items false ys) (feed_all o (asked_items false (record { item = x; begins_key = b } ∷ xs)) p)
 append_by o (OfComment c) b xs ys h p = h p
 append_by o (OfLexeme l) b xs ys h p =
     lexeme_asked o l b (xs ++ ys) p
     ∙ then_then o xs ys (handed (bare_step o b l p)) h
-    ∙ ap (then_all o (asked_items false ys)) (sym (lexeme_asked o l b xs p))
+    ∙ ap (then_feed o (asked_items false ys)) (sym (lexeme_asked o l b xs p))
 
 pub asked_append : (o : OptionsData) (xs ys : List FlaggedItem) (p : ParserState) →
-    feed_all o (asked_items false (xs ++ ys)) p ≡ then_all o (asked_items false ys)
+    feed_all o (asked_items false (xs ++ ys)) p ≡ then_feed o (asked_items false ys)
     (feed_all o (asked_items false xs) p)
 asked_append o [] ys p = sym (front_none (feed_all o (asked_items false ys) p))
 asked_append o (i ∷ xs) ys p = append_by o i.item i.begins_key xs ys (asked_append o xs ys) p
@@ -177,7 +170,7 @@ module _ (o : OptionsData) (start : ParserState) (before : List FlaggedItem) whe
       (events ++ [], quiet o q)
   comment_fed c b p q events e h =
       asked_append o before (record { item = OfComment c; begins_key = b } ∷ []) start
-      ∙ ap (then_all o []) e
+      ∙ ap (then_feed o []) e
       ∙ ap (λ (q : ParserState). let r : FeedGiven = Ok (events ++ [], q) in r) (sym h)
 
   comment_row : (c : CommentRead) (b : Bool) (w : Waiting) (held : List PlainEvent) → RowBehind o before w.room →
@@ -340,16 +333,16 @@ module _ (o : OptionsData) (start : ParserState) (before : List FlaggedItem) (l 
       ≡ Ok (events ++ (q.given ++ []), record q { given = [] })
   lexeme_fed p q events e f =
       asked_append o before (of_lexeme l b ∷ []) start
-      ∙ ap (then_all o (asked_items false (of_lexeme l b ∷ []))) e
-      ∙ ap (with_front events) (lexeme_asked o l b [] p ∙ ap (λ r. then_all o [] (handed r)) f)
+      ∙ ap (then_feed o (asked_items false (of_lexeme l b ∷ []))) e
+      ∙ ap (with_front events) (lexeme_asked o l b [] p ∙ ap (λ r. then_feed o [] (handed r)) f)
 
   lexeme_refused : (p : ParserState) (events : List PlainEvent) (f : Fault) →
       feed_all o (asked_items false before) start ≡ Ok (events, p) → bare_step o b l p ≡ Err f →
       feed_all o (asked_items false (before ++ (of_lexeme l b ∷ is))) start ≡ Err f
   lexeme_refused p events f e g =
       asked_append o before (of_lexeme l b ∷ is) start
-      ∙ ap (then_all o (asked_items false (of_lexeme l b ∷ is))) e
-      ∙ ap (with_front events) (lexeme_asked o l b is p ∙ ap (λ r. then_all o (asked_items false is) (handed r)) g)
+      ∙ ap (then_feed o (asked_items false (of_lexeme l b ∷ is))) e
+      ∙ ap (with_front events) (lexeme_asked o l b is p ∙ ap (λ r. then_feed o (asked_items false is) (handed r)) g)
 
   no_row : (room : ℕ) → length (tail_comments l.tail ++ []) + room ≡ o.max_buffered_comment_events →
       RowBehind o (before ++ (of_lexeme l b ∷ [])) room

@@ -10,6 +10,7 @@ use Rattle.granit_error.specs.FaultKind.{TooManyComments}
 use Rattle.granit_lexemes.specs.Pieces.{with_front}
 use Rattle.granit_lexemes.specs.PlainEvent.{PlainEvent}
 use Rattle.granit_language.specs.CommentRows.{AreComments, tail_comments}
+use Rattle.granit_machine.proofs.ClosingLemmas.{FeedGiven}
 use Rattle.granit_machine.specs.Frames.{Waiting, ParserState}
 use Rattle.granit_machine.specs.Lexing.{FlaggedItem}
 use Rattle.granit_machine.specs.Machine.{asked_items, feed_all}
@@ -18,7 +19,7 @@ use Rattle.granit_invariants.specs.Quiet.{quiet, waits_alone}
 use Rattle.granit_invariants.specs.RefusedRows.{RefusesRow, NoRow, FirstRow}
 use Rattle.granit_invariants.proofs.CommentLaws.{items_given}
 use Rattle.granit_invariants.proofs.RoomSteps.{CalmBy}
-use Rattle.granit_invariants.proofs.RowRuns.{FeedGiven, of_lexeme, asked_append, RowBehind, RowBy, Behind, StepRows}
+use Rattle.granit_invariants.proofs.RowRuns.{of_lexeme, asked_append, RowBehind, RowBy, Behind, StepRows}
 use Rattle.granit_invariants.proofs.RowRuns.{length_last, bare_front, item_rows}
 
 -- ---- lists

@@ -29,12 +29,13 @@ use Rattle.granit_machine.specs.NodeSteps.{Stepped, alias_by, tag_prefix, tagged
 use Rattle.granit_machine.specs.NodeSteps.{known_prefix}
 use Rattle.granit_machine.specs.NodeSteps.{NextEntry, NewSequence, IndentlessSequence, dash_room, give_tail}
 use Rattle.granit_machine.specs.NodeSteps.{token_number, take_dash, first_dash, open_flow, bare_by, bare, node_by, node}
-use Rattle.granit_machine.specs.TokenSort.{TokenSort, BeginsKey, BeginsNode, DashToken, QuestionToken, BareColon}
+use Rattle.granit_machine.specs.TokenSort.{TokenSort, BeginsKey, BeginsNode, QuestionToken, BareColon}
 use Rattle.granit_machine.specs.TokenSort.{KeyedColon, CommaToken, SequenceCloser, MappingCloser, Token, is_dash_token}
 use Rattle.granit_machine.specs.TokenSort.{token_column, is_in_column, is_right_of, begins_node, begins_pair}
 use Rattle.granit_lexemes.specs.PlainEvent as events
 use Rattle.granit_lexemes.specs.Lexeme as lexemes
 use Rattle.granit_invariants.proofs.Quieting.{NodeKind}
+use Rattle.granit_machine.proofs.ClosingLemmas.{no_dash_pair}
 use Rattle.granit_invariants.proofs.Telling.{told, flush_told, give_told, give_empty_told, leaf_told, begin_told}
 use Rattle.granit_invariants.proofs.Telling.{waits_told, owed_told, end_node_told, with_tail_of, tail_told}
 
@@ -86,7 +87,7 @@ abbrev pub Adds : Token → ParserState → Stepped → Type 0
 Adds t p r = Tells r (Added t (told p))
 
 -- a step of another token
-plainly : (t : Token) (p : ParserState) (q : ParserState) → ((es : List PlainEvent) → es ≡ Added t es) →
+pub plainly : (t : Token) (p : ParserState) (q : ParserState) → ((es : List PlainEvent) → es ≡ Added t es) →
     told q ≡ told p → Adds t p (Ok q)
 plainly t p q h e = tells_ok q (Added t (told p)) (e ∙ h (told p))
 
@@ -222,10 +223,6 @@ next_pair_adds o t column stage BeginsKey p h = from t p (mapping_at column AtKe
     (entry_told t column AtKey p) (bare_adds o t (mapping_at column AtKey (owed t.lexeme.start p)))
 next_pair_adds o t column stage QuestionToken p h = plainly t p _ h (entry_told t column AtQuestion p)
 next_pair_adds o t column stage sort p h = plainly t p _ h (bare_colon_told o t column stage p)
-
-no_dash_pair : (sort : TokenSort) → begins_pair sort ≡ true → is_dash_token sort ≡ false
-no_dash_pair DashToken e = absurd cc
-no_dash_pair sort e = refl
 
 behind_indicator_adds : (o : OptionsData) (t : Token) (column : ℕ) (stage : PairStage) (p : ParserState) → Sorted t →
     Adds t p (behind_indicator o t column stage p)

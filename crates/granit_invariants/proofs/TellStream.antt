@@ -1,6 +1,6 @@
 -- What is fed with items tells their comments, in order.
 use Rattle.std.proofs.Common.{◌≡◌, ℕ, ◌==◌, ◌||◌, ◌&&◌, not, Bool, true, false, List, [], ◌∷◌, ◌++◌, Option, Some, None}
-use Rattle.std.proofs.Common.{Result, Ok, Err, refl, sym, ap, subst, ◌∙◌, append_assoc}
+use Rattle.std.proofs.Common.{Ok, Err, refl, sym, ap, subst, ◌∙◌, append_assoc}
 use Rattle.std.specs.Prelude.{if◌then◌else◌}
 use Rattle.std.proofs.lemmas.List.{append-nil}
 use Rattle.granit_error.specs.OptionsData.{OptionsData}
@@ -8,13 +8,13 @@ use Rattle.granit_lexemes.specs.Comment.{CommentRead}
 use Rattle.granit_lexemes.specs.Lexeme as lexemes
 use Rattle.granit_lexemes.specs.Lexeme.{DirectiveKind, Version, TagPrefix, Reserved, LexemeKind, KeyStart, Lexeme, Item}
 use Rattle.granit_lexemes.specs.Lexeme.{OfLexeme, OfComment}
-use Rattle.granit_lexemes.specs.Outcome.{Fault, ◌>>=◌}
+use Rattle.granit_lexemes.specs.Outcome.{◌>>=◌}
 use Rattle.granit_lexemes.specs.Pieces.{with_front, pieces}
 use Rattle.granit_lexemes.specs.PlainEvent as events
-use Rattle.granit_lexemes.specs.PlainEvent.{PlainEvent, PlainVersion, event_at, is_note}
+use Rattle.granit_lexemes.specs.PlainEvent.{PlainEvent, PlainVersion, event_at}
 use Rattle.granit_lexemes.specs.Source.{Source}
 use Rattle.granit_scalars.proofs.Turning.{Carries, pieces_hold}
-use Rattle.granit_machine.proofs.ClosingLemmas.{close_turn-Shortens}
+use Rattle.granit_machine.proofs.ClosingLemmas.{close_turn-Shortens, FeedGiven}
 use Rattle.granit_machine.specs.Closing.{is_behind_question, ends_top, token_start, end_top, close_turn, depth, close}
 use Rattle.granit_machine.specs.Entries.{lookup_text}
 use Rattle.granit_machine.specs.Frames.{Frame, Root, WithProperties, BlockSequence, BlockMapping, FlowSequence}
@@ -30,14 +30,16 @@ use Rattle.granit_machine.specs.Parser.{take_lexeme, take_item, feed}
 use Rattle.granit_machine.specs.StreamSteps.{at_root, with_version, with_handle, open_document, with_directive}
 use Rattle.granit_machine.specs.StreamSteps.{behind_directives, bare_start, begin_document, without_directives}
 use Rattle.granit_machine.specs.StreamSteps.{when_fresh, when_between, end_document, behind_root, outside}
-use Rattle.granit_machine.specs.TokenSort.{TokenSort, BeginsNode, BareColon, Token, token_sort, token_of, is_dash_token}
+use Rattle.granit_machine.specs.TokenSort.{TokenSort, BareColon, Token, token_sort, token_of, is_dash_token}
 use Rattle.granit_machine.specs.TokenSort.{is_bare_colon, begins_node}
+use Rattle.granit_invariants.proofs.CommentLaws.{CleanFed, clean_fed}
+use Rattle.granit_invariants.proofs.QuietStream.{bare_start_tells}
 use Rattle.granit_invariants.specs.CommentEvents.{only_comments, held_of, comment_event, tail_events, item_events}
 use Rattle.granit_invariants.specs.CommentEvents.{comment_events}
 use Rattle.granit_invariants.proofs.Telling.{only_append, told, flush_told, give_told, finish_told, end_node_told}
 use Rattle.granit_invariants.proofs.Telling.{end_properties_told, with_tail_of}
 use Rattle.granit_invariants.proofs.TellSteps.{Tells, tells_ok, tells_err, tells_if, tells_then, adds, Added, Sorted}
-use Rattle.granit_invariants.proofs.TellSteps.{Adds, node_adds, in_sequence_adds, in_mapping_adds}
+use Rattle.granit_invariants.proofs.TellSteps.{Adds, node_adds, in_sequence_adds, in_mapping_adds, plainly}
 use Rattle.granit_invariants.proofs.TellSteps.{in_flow_sequence_adds, flow_mapping_adds, flow_pair_adds}
 
 -- ---- closing
@@ -47,9 +49,6 @@ end_top_told o t p (Root explicit ∷ fs) = finish_told (give (null_at p.last_en
     (null_at p.last_end) p refl
 end_top_told o t p (WithProperties q ∷ fs) = end_properties_told o q p
 end_top_told o t p fs = end_node_told t.lexeme.start (token_start t) p
-
-abbrev pub FeedGiven : Type 0
-FeedGiven = Result (List PlainEvent × ParserState) Fault
 
 -- what closing leaves: nothing more ends
 abbrev pub Closed : Token → ParserState → FeedGiven → Type 0
@@ -77,10 +76,6 @@ all_closed o t p = pieces_hold (Closed t) depth (close_turn o t) (close_turn-Sho
 
 abbrev SilentIn : Token → LexemeKind → Type 0
 SilentIn t kind = (es : List PlainEvent) → adds kind t.lexeme.tail es ≡ Added t es
-
-plainly : (t : Token) (p q : ParserState) → ((es : List PlainEvent) → es ≡ Added t es) → told q ≡ told p → Adds t p
-    (Ok q)
-plainly t p q h e = tells_ok q (Added t (told p)) (e ∙ h (told p))
 
 at_root_adds : (o : OptionsData) (t : Token) (p : ParserState) → Adds t p (at_root o t p)
 at_root_adds o t p = tells_if (begins_node t.sort) _ _ (Added t (told p)) (λ e. node_adds o t p) (λ e. tells_err _ _)
@@ -119,10 +114,6 @@ directives_adds : (o : OptionsData) (kind : LexemeKind) (t : Token) (version : O
 directives_adds o (lexemes.Directive d) t version p h = directive_adds o t d version p h
 directives_adds o lexemes.DocumentStart t version p h = open_document_adds t version p h
 directives_adds o kind t version p h = tells_err _ _
-
-bare_start_tells : (sort : TokenSort) (t : Token) → is_note (bare_start sort t).kind ≡ false
-bare_start_tells BeginsNode t = refl
-bare_start_tells sort t = refl
 
 begin_document_adds : (o : OptionsData) (t : Token) (p : ParserState) → Adds t p (begin_document o t p)
 begin_document_adds o t p =
@@ -168,11 +159,11 @@ outside_adds o Inside t p = tells_err _ _
 
 -- ---- a token at the open place
 
-no_dash_colon : (sort : TokenSort) → is_bare_colon sort ≡ true → is_dash_token sort ≡ false
+pub no_dash_colon : (sort : TokenSort) → is_bare_colon sort ≡ true → is_dash_token sort ≡ false
 no_dash_colon BareColon e = refl
 no_dash_colon sort e = absurd cc
 
-colon_left : (a b c : Bool) → (a || (b && not c)) ≡ false → b ≡ true → c ≡ true
+pub colon_left : (a b c : Bool) → (a || (b && not c)) ≡ false → b ≡ true → c ≡ true
 colon_left true b c e f = absurd cc
 colon_left false true true e f = refl
 colon_left false true false e f = absurd cc
@@ -285,10 +276,6 @@ abbrev pub TellsAll : FeedGiven → List PlainEvent → Type 0
 TellsAll (Ok x) es = only_comments x.0 ++ only_comments (held_of x.1.waiting) ≡ es
 TellsAll (Err f) es = Unit {0}
 
-abbrev Clean : FeedGiven → Type 0
-Clean (Ok x) = x.1.given ≡ []
-Clean (Err f) = Unit {0}
-
 handed_tells : (r : Stepped) (es : List PlainEvent) → Tells r es → TellsAll (r >>= λ q. Ok (
   q.given,
   record q
@@ -297,19 +284,11 @@ handed_tells : (r : Stepped) (es : List PlainEvent) → Tells r es → TellsAll 
 handed_tells (Ok q) es t = t.says
 handed_tells (Err f) es t = tt
 
-handed_clean : (r : Stepped) → Clean (r >>= λ q. Ok (q.given, record q { given = [] }))
-handed_clean (Ok q) = refl
-handed_clean (Err f) = tt
-
 feed_tells : (o : OptionsData) (i : FlaggedItem) (next : Option ℕ) (p : ParserState) → TellsAll (feed o i next p)
     (told p ++ item_events i.item next)
 unfolding feed
 feed_tells o i next p = handed_tells (take_item o i.item i.begins_key next p) _
     (item_tells o i.item i.begins_key next p)
-
-feed_clean : (o : OptionsData) (i : FlaggedItem) (next : Option ℕ) (p : ParserState) → Clean (feed o i next p)
-unfolding feed
-feed_clean o i next p = handed_clean (take_item o i.item i.begins_key next p)
 
 front_tells :
     (front before here more : List PlainEvent) (q : ParserState) (r : FeedGiven) →
@@ -327,7 +306,7 @@ front_tells front before here more q (Err f) e h = tt
 then_tells :
     (o : OptionsData) (is : List FlaggedItem) (before here : List PlainEvent) (r : FeedGiven) → TellsAll r
     (before ++ here) →
-    Clean r →
+    CleanFed r →
     ((q : ParserState) → q.given ≡ [] → TellsAll (feed_all o is q) (only_comments
     (held_of q.waiting) ++ comment_events is)) →
     TellsAll (r >>= λ x. with_front x.0 (feed_all o is x.1)) (before ++ (here ++ comment_events is))
@@ -343,7 +322,7 @@ all_tell o (i ∷ is) p e =
     then_tells o is (only_comments (held_of p.waiting)) (item_events i.item (next_line is)) (feed o i (next_line is) p)
     (subst (λ es. TellsAll (feed o i (next_line is) p) (es ++ item_events i.item (next_line is)))
     (ap (λ es. only_comments es ++ only_comments (held_of p.waiting)) e) (feed_tells o i (next_line is) p))
-    (feed_clean o i (next_line is) p) (λ q c. all_tell o is q c)
+    (clean_fed o i (next_line is) p) (λ q c. all_tell o is q c)
 
 pub items_told :
     (o : OptionsData) (is : List FlaggedItem) (p q : ParserState) (es : List PlainEvent) → p.given ≡ [] →

@@ -18,11 +18,10 @@ use Rattle.granit_json.specs.JsonText.{members, next_element, next_member, no_el
 use Rattle.granit_json.specs.JsonText.{one_member, part, text}
 use Rattle.granit_lexemes.specs.Basics.{owned}
 use Rattle.granit_lexemes.specs.Gap.{Each}
-use Rattle.granit_lexemes.specs.Outcome.{Fault}
-use Rattle.granit_lexemes.specs.PlainEvent.{DocumentEnd, EventKind, MappingEnd, MappingStart, PlainEvent, Scalar}
+use Rattle.granit_lexemes.specs.PlainEvent.{DocumentEnd, EventKind, MappingEnd, MappingStart, Scalar}
 use Rattle.granit_lexemes.specs.PlainEvent.{SequenceEnd, SequenceStart, StreamEnd}
 use Rattle.granit_machine.specs.Machine.{run}
-use Rattle.std.proofs.Common.{Ok, Result}
+use Rattle.granit_answers.proofs.Answered.{one_answer}
 
 -- ---- back from kinds
 
@@ -165,9 +164,6 @@ mutual
       (m, (members_more a.0 m (le-max_left a.0 b.0) d a.1, member_more b.0 m (le-max_right a.0 b.0) e b.1))
 
 -- ---- one value
-
-one_answer : (r : Result (List PlainEvent) Fault) (es ds : List PlainEvent) → r ≡ Ok es → r ≡ Ok ds → es ≡ ds
-one_answer r es ds a b = cc
 
 pub one_telling : (x : List ℕ) (t u : Json) (d : JsonText x t) (e : JsonText x u) → Each is_printable x
     → json_events x d ≡ json_events x e

@@ -1,13 +1,14 @@
 -- White space between the lexemes of JSON, and what is read behind a lexeme.
-use Rattle.std.proofs.Common.{Bool, List, [], ap, append_assoc, arith, false, inl, inr, refl, sym, true, ℕ, ◌++◌}
+use Rattle.std.proofs.Common.{Bool, List, [], ap, append_assoc, arith, false, inl, inr, refl, true, ℕ, ◌++◌}
 use Rattle.std.proofs.Common.{◌==◌, ◌||◌, ◌∙◌}
 use Rattle.std.proofs.Common.{◌∷◌, ◌≡◌, ◌⊎◌}
 use Rattle.std.proofs.lemmas.Bool.Decides.{nat_tests}
-use Rattle.granit_base.specs.Classes.{is_blank, is_break, is_gap, is_printable}
+use Rattle.granit_base.specs.Classes.{is_blank, is_break, is_gap}
 use Rattle.granit_base.specs.Place.{first}
 use Rattle.granit_canonical.proofs.Places.{Held, Starts, Tail, past_all, starts_end}
-use Rattle.granit_canonical.proofs.Taking.{is_mark}
+use Rattle.granit_canonical.proofs.Taking.{is_mark, mark_starts}
 use Rattle.granit_json.specs.JsonScalars.{White, is_json_white}
+use Rattle.granit_lexemes.proofs.CharTests.{solid_no_blank}
 use Rattle.granit_lexemes.specs.Gap.{Each, IsGap}
 use Rattle.granit_lexemes.specs.HeaderExtent.{uncommented}
 use Rattle.granit_lexemes.specs.Here.{Here}
@@ -31,31 +32,11 @@ pub data Ends : List Bracket → (rest : List ℕ) → Type 0 where
       → Ends (b ∷ bs) (c ∷ rest)
   at_end : Ends [] []
 
-pub mark_starts : (c : ℕ) (rest : List ℕ) → is_mark c ≡ true → Starts (c ∷ rest)
-unfolding is_gap is_blank is_break
-mark_starts c rest e = record {
-  no_gap = grind (arith, nat_tests);
-  no_comment = grind (arith, nat_tests);
-  no_mark = λ f. let g : is_mark 0xFEFF ≡ true = ap is_mark (sym f) ∙ e in cc;
-}
-
-pub mark_prints : (c : ℕ) → is_mark c ≡ true → is_printable c ≡ true
-unfolding is_printable is_break
-mark_prints c e = grind (arith, nat_tests)
-
 pub ends_start : {bs : List Bracket} {rest : List ℕ} → Ends bs rest → Starts rest
 ends_start (at_sign {c = c} {rest = rest} e n) = mark_starts c rest e
 ends_start at_end = starts_end
 
 -- ---- a gap as blanks, and what begins with a break
-
-no_blank : (c : ℕ) → is_gap c ≡ false → is_blank c ≡ false
-unfolding is_gap
-no_blank c e = by (is_blank c) (is_break c) e
-  where
-    by : (a b : Bool) → (a || b) ≡ false → a ≡ false
-    by true b e = e
-    by false b e = refl
 
 pub gap_breaks : (c : ℕ) → is_gap c ≡ true → is_blank c ≡ false → is_break c ≡ true
 unfolding is_gap
@@ -98,7 +79,7 @@ split_gap [] rest i s = record {
   whole = refl;
   each = tt;
   gap = tt;
-  stops = no_blank (first rest) s.no_gap;
+  stops = solid_no_blank (first rest) s.no_gap;
   no_comment = s.no_comment;
   begins = inr refl;
 }

@@ -8,15 +8,16 @@ use Rattle.granit_base.specs.Place.{first}
 use Rattle.granit_base.specs.Written.{Written}
 use Rattle.granit_base.specs.declared.style.ScalarStyle.TheVariants.{DoubleQuoted}
 use Rattle.granit_canonical.proofs.Calm.{Calm, Mild, calm_behind, calm_closed, calm_fresh, calm_gap, gap_opener}
-use Rattle.granit_canonical.proofs.Calm.{none_overdue}
-use Rattle.granit_canonical.proofs.Places.{Before, Held, Starts, gap_stops, gap_to, held_on, past_all, stepped_text}
-use Rattle.granit_canonical.proofs.Taking.{begins_text, begins_with, is_mark, LexemeRead}
+use Rattle.granit_canonical.proofs.Calm.{none_overdue, no_cut_fits}
+use Rattle.granit_canonical.proofs.Nodes.{quote_starts}
+use Rattle.granit_canonical.proofs.Places.{Before, Held, Starts, gap_stops, gap_to, held_on, past_all}
+use Rattle.granit_canonical.proofs.Taking.{begins_text, begins_with, is_mark, LexemeRead, mark_starts}
 use Rattle.granit_canonical.specs.Canonical.{spot, stretch}
 use Rattle.granit_error.specs.OptionsData.{OptionsData}
-use Rattle.granit_json.proofs.Gaps.{mark_starts, tail_past}
+use Rattle.granit_json.proofs.Gaps.{tail_past}
 use Rattle.granit_json.proofs.Named.{Named, named_done, named_due, named_flow, named_fresh, named_key, named_noded}
 use Rattle.granit_json.proofs.Named.{new_key_low, none_below, not_stale}
-use Rattle.granit_json.proofs.Open.{open_cut, open_inside, open_tabs}
+use Rattle.granit_json.proofs.Open.{open_inside, open_tabs}
 use Rattle.granit_json.proofs.Quoted.{at_mark, before_string, quotes_here}
 use Rattle.granit_json.specs.JsonEvents.{string_text}
 use Rattle.granit_json.specs.JsonScalars.{IsString}
@@ -26,6 +27,7 @@ use Rattle.granit_language.specs.Begins.{Begins, colon}
 use Rattle.granit_language.specs.Reached.{ends_column_by, of_lexeme}
 use Rattle.granit_language.specs.Standing.{ColonFits, in_front_of_lexeme, key_start}
 use Rattle.granit_language.specs.Stretch.{TailIf}
+use Rattle.granit_lexemes.proofs.HereLemmas.{stepped_text}
 use Rattle.granit_lexemes.specs.Gap.{Each, IsGap}
 use Rattle.granit_lexemes.specs.Here.{Here, mark_of, next_char, step}
 use Rattle.granit_lexemes.specs.Lexeme.{Colon, Lexeme, Scalar}
@@ -65,14 +67,6 @@ spot_index x rest = refl
 
 colon_mark : is_mark 0x3A ≡ true
 colon_mark = refl
-
-quote_starts : (rest : List ℕ) → Starts (0x22 ∷ rest)
-unfolding is_gap is_blank is_break
-quote_starts rest = record {
-  no_gap = refl;
-  no_comment = refl;
-  no_mark = λ e. let y : (0x22 == 0xFEFF) ≡ true = ap (λ n. n == 0xFEFF) e in cc;
-}
 
 module _ (o : OptionsData) (x : List ℕ) where
   -- how far a name's colon stands from it
@@ -144,7 +138,7 @@ module _ (o : OptionsData) (x : List ℕ) where
                   stops = gap_stops (MayPrefix s.laid) from h p.text st;
                 })
                     (ap (λ (l : List ℕ). first l == 0x23) p.text ∙ st.no_comment) (open_tabs o s.laid h c.columns)
-                    (open_cut s.laid h c.cut);
+                    (no_cut_fits s.laid h c.cut);
                 keys = none_overdue o (Curly ∷ bs) at calm;
                 begins = q.begins;
               })
@@ -286,7 +280,7 @@ module _ (o : OptionsData) (x : List ℕ) where
                   stops = gap_stops (MayPrefix s.laid) from h e cs;
                 })
                     (ap (λ (l : List ℕ). first l == 0x23) e ∙ cs.no_comment) (open_tabs o s.laid h n.columns)
-                    (open_cut s.laid h n.cut);
+                    (no_cut_fits s.laid h n.cut);
                 keys = named_due o bs k at named;
                 begins = begins_text t from (Placed ColonSign) e
                     (colon_begins (is_in_flow t.laid) (is_adjacent t.laid.last) h.place.column (g ++ rest)

@@ -1,28 +1,27 @@
 -- What the machine answers for JSON text.
-use Rattle.std.proofs.Common.{Bool, List, Ok, Option, Result, [], Err, ap, ap₂, cond, false, not, refl, subst, sym}
+use Rattle.std.proofs.Common.{Bool, List, Ok, Option, [], ap, false, refl, subst, sym}
 use Rattle.std.proofs.Common.{true}
 use Rattle.std.proofs.Common.{ℕ, ◌++◌, ◌∙◌, ◌∷◌, ◌≡◌, ◌≤◌}
 use Rattle.std.proofs.lemmas.List.{append-nil}
-use Rattle.std.specs.Prelude.{None, Some, is_none}
+use Rattle.granit_lexemes.proofs.PieceLemmas.{fault_none}
 use Rattle.granit_answers.proofs.OneCause.{answer_reads, reading_answered, unasked_silent}
 use Rattle.granit_base.specs.Classes.{is_printable}
+use Rattle.granit_canonical.proofs.Laws.{BareItem, BareItems, no_row_too_long, all_others, lex_same}
 use Rattle.granit_error.specs.OptionsData.{OptionsData}
-use Rattle.granit_invariants.specs.CommentEvents.{comment_events, item_events, only_comments, tail_events}
+use Rattle.granit_invariants.specs.CommentEvents.{comment_events, item_events, tail_events}
 use Rattle.granit_invariants.specs.Quiet.{but_comments}
 use Rattle.granit_json.proofs.Passing.{Flags, flagged_is, flagged_of, flags_name, items_of, no_flag, unflagged}
 use Rattle.granit_json.proofs.Whole.{TextRead, text_read}
 use Rattle.granit_json.specs.Json.{Json, json_depth}
 use Rattle.granit_json.specs.JsonEvents.{json_events}
 use Rattle.granit_json.specs.JsonText.{JsonText, NamesFit}
-use Rattle.granit_language.specs.CommentRows.{AreComments, RowTooLong, tail_comments}
 use Rattle.granit_language.specs.Seen.{Flagged}
 use Rattle.granit_language.specs.TextFault.{NoneTold}
 use Rattle.granit_lexemes.specs.Comment.{CommentRead}
 use Rattle.granit_lexemes.specs.Gap.{Each}
 use Rattle.granit_lexemes.specs.Here.{start_of}
 use Rattle.granit_lexemes.specs.Lexeme.{Item, OfComment, OfLexeme}
-use Rattle.granit_lexemes.specs.Outcome.{Fault}
-use Rattle.granit_lexemes.specs.PlainEvent.{PlainEvent, is_note}
+use Rattle.granit_lexemes.specs.PlainEvent.{PlainEvent}
 use Rattle.granit_machine.specs.Laid.{Laid}
 use Rattle.granit_machine.specs.Lexing.{FlaggedItem, flagged, lex}
 use Rattle.granit_machine.specs.Machine.{run}
@@ -32,41 +31,10 @@ use Rattle.granit_reading.proofs.WholeLaw.{all_read_whole}
 
 -- ---- no comment is one too many, since there is none
 
-abbrev BareItem : Item → Type 0
-BareItem (OfLexeme l) = l.tail ≡ None
-BareItem (OfComment c) = ⊥
-
-abbrev BareItems : List FlaggedItem → Type 0
-BareItems [] = Unit {0}
-BareItems (i ∷ is) = BareItem i.item × BareItems is
-
 bare_items : (fs : List Flagged) → Flags fs → BareItems (flagged_of fs)
 bare_items _ no_flag = tt
 bare_items _ (unflagged {fs = fs} l k t p) = (t, bare_items fs p)
 bare_items _ (flags_name {fs = fs} l m k a b n t u p) = (t, (u, bare_items fs p))
-
-bare_behind : (front rest : List FlaggedItem) → BareItems (front ++ rest) → BareItems rest
-bare_behind [] rest b = b
-bare_behind (i ∷ front) rest b = bare_behind front rest b.1
-
-no_row : (row rest : List FlaggedItem) (cs : List CommentRead) → BareItems (row ++ rest) → AreComments row cs → cs ≡ []
-no_row [] rest [] b a = refl
-no_row [] rest (c ∷ cs) b a = absurd a
-no_row (i ∷ row) rest [] b a = absurd a
-no_row (i ∷ row) rest (c ∷ cs) b a = absurd (subst BareItem a.0 b.0)
-
-not_more : (kept : List CommentRead) (c : CommentRead) → [] ≡ kept ++ (c ∷ []) → ⊥
-not_more [] c e = cc
-not_more (k ∷ kept) c e = cc
-
-no_row_too_long : (o : OptionsData) (items front : List FlaggedItem) (f : Fault) → BareItems items
-    → RowTooLong o items front f → ⊥
-no_row_too_long o items front f b r =
-    let here = bare_behind front (record { item = OfLexeme r.lexeme; begins_key = r.flag } ∷ (r.row ++ r.rest))
-    (subst BareItems r.is b) in
-    not_more r.kept r.one
-    (sym (ap₂ (λ (t : Option CommentRead) (cs : List CommentRead). tail_comments t ++ cs) here.0
-    (no_row r.row r.rest r.comments here.1 r.are)) ∙ r.more)
 
 none_of : (o : OptionsData) (l : Laid) (fs : List Flagged) → Flags fs → NoneTold o true l (items_of fs)
 none_of o l fs b asked given before front f many =
@@ -84,28 +52,6 @@ no_events (i ∷ is) b = by i.item b.0 (no_events is b.1)
     by (OfLexeme l) t n =
         ap (λ (tail : Option CommentRead). tail_events l.kind tail (next_line is) ++ comment_events is) t ∙ n
     by (OfComment c) t n = absurd t
-
-all_others : (es : List PlainEvent) → only_comments es ≡ [] → but_comments es ≡ es
-all_others [] h = refl
-all_others (e ∷ es) h = by (is_note e.kind) (λ g. all_others es g) h
-  where
-    by : (v : Bool) → (only_comments es ≡ [] → but_comments es ≡ es)
-        → cond v (e ∷ only_comments es) (only_comments es) ≡ []
-        → cond (not v) (e ∷ but_comments es) (but_comments es) ≡ e ∷ es
-    by true rest g = absurd cc
-    by false rest g = ap (λ (ks : List PlainEvent). e ∷ ks) (rest g)
-
-fault_none : (f : Option Fault) → is_none f ≡ true → f ≡ None
-fault_none None e = refl
-fault_none (Some f) e = absurd cc
-
-lex_same : (a : Result (List Item × LexState) Fault) (i j : List Item) (s t : LexState) → a ≡ Ok (i, s) → a ≡ Ok (j, t)
-    → i ≡ j
-lex_same a i j s t e f = ap items_in (sym e ∙ f)
-  where
-    items_in : Result (List Item × LexState) Fault → List Item
-    items_in (Ok x) = x.0
-    items_in (Err f) = []
 
 silent : (o : OptionsData) (x : List ℕ) (items : List Item) (t : LexState) (gs : List PlainEvent)
     → lex o (start_of x) ≡ Ok (items, t) → run o x ≡ Ok gs → comment_events (flagged items) ≡ [] → (v : Bool)

@@ -1,23 +1,21 @@
 -- Brackets and commas of JSON stand, with white space behind them.
-use Rattle.std.proofs.Common.{Bool, List, ap, arith, drop, false, length, refl, true, ℕ, ◌++◌, ◌<◌}
+use Rattle.std.proofs.Common.{List, ap, arith, drop, false, length, refl, true, ℕ, ◌++◌, ◌<◌}
 use Rattle.std.proofs.Common.{◌∷◌, ◌≡◌}
 use Rattle.std.specs.Prelude.{None, if◌then◌else◌}
-use Rattle.granit_base.specs.Classes.{is_break, is_printable}
 use Rattle.granit_canonical.proofs.Calm.{Calm, Fine, calm_behind, calm_closed, calm_forgets, calm_noded, calm_opened}
 use Rattle.granit_canonical.proofs.Calm.{calm_shut, shape_flow, shape_innermost, shape_length, stands_inside, top_mild}
-use Rattle.granit_canonical.proofs.Places.{Held, Starts, held_on, marked, stepped_text}
-use Rattle.granit_canonical.proofs.Signs.{source_is}
-use Rattle.granit_canonical.proofs.Taking.{Taken, begins_text, begins_with, passed_at}
+use Rattle.granit_canonical.proofs.Places.{Held, Starts, held_on, marked}
+use Rattle.granit_canonical.proofs.Signs.{source_is, closer_begins, opener_begins, comma_begins}
+use Rattle.granit_canonical.proofs.Taking.{Taken, begins_text, passed_at}
 use Rattle.granit_error.specs.OptionsData.{OptionsData}
 use Rattle.granit_json.proofs.Gaps.{tail_past}
 use Rattle.granit_language.specs.Before.{behind, in_front}
-use Rattle.granit_language.specs.Begins.{Begins, closes, comma, opens}
 use Rattle.granit_language.specs.Reached.{ends_column_by}
+use Rattle.granit_lexemes.proofs.HereLemmas.{stepped_text}
 use Rattle.granit_lexemes.specs.Gap.{IsGap}
 use Rattle.granit_lexemes.specs.Here.{mark_of, step}
 use Rattle.granit_lexemes.specs.Lexeme.{Close, Comma, Open, closer_char, opener_char}
 use Rattle.granit_lexemes.specs.declared.layout.Bracket.{Bracket}
-use Rattle.granit_lexemes.specs.declared.layout.Bracket.TheVariants.{Curly, Square}
 use Rattle.granit_lexemes.specs.declared.layout.LastLexeme.TheVariants.{Adjacent, Another, Opener}
 use Rattle.granit_machine.specs.Columns.{closed_at}
 use Rattle.granit_machine.specs.FlowLexemes.{closed_bracket, last_of_comma, opened}
@@ -25,27 +23,6 @@ use Rattle.granit_machine.specs.Laid.{is_adjacent, is_in_flow, is_opener}
 use Rattle.granit_machine.specs.LexemeSort.{CloseSign, CommaSign, OpenSign, Placed}
 use Rattle.granit_machine.specs.PossibleKeys.{forgets_key}
 use Rattle.granit_machine.specs.ReaderState.{ReaderState, lexeme_to, with_tail}
-
-opener_begins : (b : Bracket) (flow adjacent : Bool) (column : ℕ) (text : List ℕ)
-    → Begins flow adjacent column (opener_char b ∷ text) (Placed (OpenSign b))
-unfolding is_printable is_break
-opener_begins Square flow adjacent column text =
-    begins_with flow adjacent column 0x5B text (OpenSign Square) refl refl refl refl (opens Square)
-opener_begins Curly flow adjacent column text =
-    begins_with flow adjacent column 0x7B text (OpenSign Curly) refl refl refl refl (opens Curly)
-
-closer_begins : (b : Bracket) (flow adjacent : Bool) (column : ℕ) (text : List ℕ)
-    → Begins flow adjacent column (closer_char b ∷ text) (Placed (CloseSign b))
-unfolding is_printable is_break
-closer_begins Square flow adjacent column text =
-    begins_with flow adjacent column 0x5D text (CloseSign Square) refl refl refl refl (closes Square)
-closer_begins Curly flow adjacent column text =
-    begins_with flow adjacent column 0x7D text (CloseSign Curly) refl refl refl refl (closes Curly)
-
-comma_begins : (flow adjacent : Bool) (column : ℕ) (text : List ℕ)
-    → Begins flow adjacent column (0x2C ∷ text) (Placed CommaSign)
-unfolding is_printable is_break
-comma_begins flow adjacent column text = begins_with flow adjacent column 0x2C text CommaSign refl refl refl refl comma
 
 module _ (o : OptionsData) (x : List ℕ) where
   pub takes_opener : (bs : List Bracket) (b : Bracket) (g rest : List ℕ) (t : ReaderState) → IsGap g → Starts rest

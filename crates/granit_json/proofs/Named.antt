@@ -5,6 +5,7 @@ use Rattle.std.proofs.lemmas.Bool.Decides.{nat_tests}
 use Rattle.std.specs.Prelude.{None, Some, if◌then◌else◌, is_none, nat_lt}
 use Rattle.granit_base.specs.Place.{Mark}
 use Rattle.granit_canonical.proofs.Calm.{Calm, Mild, Shape, calm_fresh, in_curly, none_mild, shape_flow}
+use Rattle.granit_canonical.proofs.Calm.{fresh_mild}
 use Rattle.granit_error.specs.OptionsData.{OptionsData}
 use Rattle.granit_language.specs.Allowed.{FarBelow}
 use Rattle.granit_language.specs.Reached.{NoneOverdue}
@@ -104,15 +105,6 @@ not_stale o m k h =
 fresh_is : (o : OptionsData) (m : Mark) (k : PossibleKey) → is_stale o true m k ≡ false
     → fresh_key o true m (Some k) ≡ Some k
 fresh_is o m k e = ap (λ v. if v then None else Some k) e
-
-if_mild : (b : Bool) (k : PossibleKey) → k.is_required ≡ false → Mild (if b then None else Some k)
-if_mild true k e j f = none_mild j f
-if_mild false k e j f = let same : k ≡ j = cc in ap (λ (k : PossibleKey). k.is_required) (sym same) ∙ e
-
-fresh_mild : (o : OptionsData) (flow : Bool) (m : Mark) (key : Option PossibleKey) → Mild key
-    → Mild (fresh_key o flow m key)
-fresh_mild o flow m None h = none_mild
-fresh_mild o flow m (Some k) h = if_mild (is_stale o flow m k) k (h k refl)
 
 fresh_shape : (o : OptionsData) (m : Mark) (bs : List Bracket) (l : Laid) (obs : List OpenBracket) → Shape bs obs
     → Shape bs (map (fresh_bracket o m) obs)

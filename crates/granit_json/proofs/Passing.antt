@@ -1,14 +1,16 @@
 -- Lexemes of JSON text in order, with those that begin keys, and how the grammar sees them.
 use Rattle.granit_lexemes.specs.Lexeme as lexemes
-use Rattle.std.proofs.Common.{List, Option, [], ap, append_assoc, ap₂, arith, false, map, refl, subst, sym, true, ℕ}
-use Rattle.std.proofs.Common.{◌++◌, ◌==◌, ◌∙◌, ◌∷◌, ◌≡◌}
-use Rattle.std.proofs.lemmas.Bool.Decides.{nat_tests}
+use Rattle.std.proofs.Common.{List, Option, [], ap, append_assoc, ap₂, false, map, refl, subst, sym, true}
+use Rattle.std.proofs.Common.{◌++◌, ◌∙◌, ◌∷◌, ◌≡◌}
+use Rattle.std.proofs.lemmas.Bool.{eq-eqb}
 use Rattle.std.specs.Prelude.{None, Some}
 use Rattle.granit_base.specs.Written.{Written}
 use Rattle.granit_base.specs.declared.style.ScalarStyle.TheVariants.{DoubleQuoted}
-use Rattle.granit_canonical.proofs.Passing.{means_append, scoped_append}
+use Rattle.granit_canonical.proofs.Passing.{means_append}
 use Rattle.granit_canonical.proofs.Taking.{LexemeRead}
+use Rattle.granit_canonical.proofs.Passing.{flag_bare}
 use Rattle.granit_error.specs.OptionsData.{OptionsData}
+use Rattle.granit_language.proofs.Scopes.{scoped_append, behind_append}
 use Rattle.granit_language.specs.Reached.{ReadWhole, Reads, whole_ends, whole_goes_on}
 use Rattle.granit_language.specs.Scope.{Scope, no_scope}
 use Rattle.granit_language.specs.Scoping.{Means, next_scope, scope_behind, scope_fault, scoped}
@@ -16,7 +18,6 @@ use Rattle.granit_language.specs.Seen.{Flagged, at_of, lexemes_flagged, terminal
 use Rattle.granit_language.specs.Terminal.{Colon, Part, Scalar, Terminal, TerminalKind, terminal}
 use Rattle.granit_lexemes.specs.Lexeme.{Item, KeyStart, Lexeme, LexemeKind, OfLexeme}
 use Rattle.granit_machine.specs.Lexing.{FlaggedItem, Flagging, and_key, flag_item, flag_lexeme, flagged, flagging}
-use Rattle.granit_machine.specs.Lexing.{is_nearest}
 use Rattle.granit_machine.specs.Reader.{is_end_kind}
 use Rattle.granit_machine.specs.ReaderState.{ReaderState}
 
@@ -45,10 +46,6 @@ lexed_then o _ t u _ gs (and_name {fs = fs} l m middle next k r w a b c d e f g 
 pub seen_append : (fs gs : List Flagged) → seen (fs ++ gs) ≡ seen fs ++ seen gs
 seen_append [] gs = refl
 seen_append (f ∷ fs) gs = ap (λ (xs : List Terminal). terminal_seen f ∷ xs) (seen_append fs gs)
-
-behind_append : (s : Scope) (xs ys : List Terminal) → scope_behind (xs ++ ys) s ≡ scope_behind ys (scope_behind xs s)
-behind_append s [] ys = refl
-behind_append s (x ∷ xs) ys = behind_append (next_scope x.kind s) xs ys
 
 -- Lexemes from one place to another, which a part of a tree spells; nothing is declared.
 pub record Passage (o : OptionsData) (s : ReaderState) (write : List Terminal → List Terminal) (t : ReaderState) : Type
@@ -165,16 +162,6 @@ abbrev pub flagged_of : List Flagged → List FlaggedItem
 flagged_of [] = []
 flagged_of (f ∷ fs) = record { item = OfLexeme f.0; begins_key = f.1 } ∷ flagged_of fs
 
-flag_bare : (l : Lexeme) (x y : Flagging) → x ≡ y → y.1 ≡ [] → l.key ≡ None
-    → flag_item (OfLexeme l) x ≡ (record { item = OfLexeme l; begins_key = false } ∷ y.0, [])
-flag_bare l x y e n k =
-    ap (flag_item (OfLexeme l)) e
-    ∙ ap (λ (ns : List ℕ). flag_lexeme (is_nearest l.number ns) l (y.0, ns)) n
-    ∙ ap (λ (key : Option KeyStart). (record { item = OfLexeme l; begins_key = false } ∷ y.0, and_key key [])) k
-
-same_number : (n m : ℕ) → n ≡ m → (n == m) ≡ true
-same_number n m e = grind (arith, nat_tests)
-
 flag_name : (l m : Lexeme) (k : KeyStart) (x : Flagging) (items : List FlaggedItem) → x ≡ (items, []) → l.key ≡ None
     → m.key ≡ Some k → k.number ≡ l.number
     → flag_item (OfLexeme l) (flag_item (OfLexeme m) x)
@@ -183,7 +170,7 @@ flag_name l m k x items e a b n =
     let last : FlaggedItem = record { item = OfLexeme m; begins_key = false } in
     ap (λ (x : Flagging). flag_item (OfLexeme l) (flag_item (OfLexeme m) x)) e
     ∙ ap (λ (key : Option KeyStart). flag_item (OfLexeme l) (last ∷ items, and_key key [])) b
-    ∙ ap (λ v. flag_lexeme v l (last ∷ items, k.number ∷ [])) (same_number k.number l.number n)
+    ∙ ap (λ v. flag_lexeme v l (last ∷ items, k.number ∷ [])) (eq-eqb k.number l.number n)
     ∙ ap (λ (key : Option KeyStart). (record { item = OfLexeme l; begins_key = true } ∷ last ∷ items, and_key key []))
     a
 

@@ -9,21 +9,21 @@ use Rattle.std.specs.Prelude.{None, Some, cond, if◌then◌else◌}
 use Rattle.granit_base.specs.Classes.{is_blank, is_blank_or_breakz, is_break, is_breakz, is_digit, is_flow, is_gap}
 use Rattle.granit_base.specs.Classes.{is_printable, is_z}
 use Rattle.granit_base.specs.Place.{Mark, first}
-use Rattle.granit_base.specs.Place.{ends_line}
 use Rattle.granit_base.specs.PlainContent.{is_content}
 use Rattle.granit_base.specs.Written.{lent}
 use Rattle.granit_base.specs.declared.style.ScalarStyle.TheVariants.{Plain}
 use Rattle.granit_canonical.proofs.Calm.{Calm, Fine, Shape, calm_closed, calm_noded, shape_flow, stands_inside}
 use Rattle.granit_canonical.proofs.Places.{Held, directly, marked, past_all}
-use Rattle.granit_canonical.proofs.Places.{stepped_text}
+use Rattle.granit_canonical.proofs.Quotes.{mark_prints}
 use Rattle.granit_canonical.proofs.Signs.{source_is}
 use Rattle.granit_canonical.proofs.Taking.{Taken, begins_text, is_mark, passed_at}
 use Rattle.granit_error.specs.OptionsData.{OptionsData}
 use Rattle.granit_json.proofs.Bares.{Sound, is_bare, is_bare_start, no_digit_dash}
-use Rattle.granit_json.proofs.Gaps.{Ends, at_end, at_sign, ends_start, gap_breaks, mark_prints}
+use Rattle.granit_json.proofs.Gaps.{Ends, at_end, at_sign, ends_start, gap_breaks}
 use Rattle.granit_language.specs.Before.{behind, in_front}
 use Rattle.granit_language.specs.Begins.{Begins, ReservedChar, ThreeStand, other, sign}
 use Rattle.granit_language.specs.Reached.{ends_column_by}
+use Rattle.granit_lexemes.proofs.HereLemmas.{stepped_text, step_line}
 use Rattle.granit_lexemes.specs.Basics.{unprintable}
 use Rattle.granit_lexemes.specs.Folding.{folded}
 use Rattle.granit_lexemes.specs.Gap.{Each, IsGap}
@@ -239,27 +239,6 @@ dash_flows flow c more rest dash = and_right flow (c == 0x2D && is_flow (first (
     by false e = refl
 
 -- ---- it stands on one line, so its text is lent
-
-no_line_end : (c : ℕ) (t : List ℕ) → is_break c ≡ false → ends_line (c ∷ t) ≡ false
-unfolding is_break
-no_line_end c t e = by (c == 0x0A) (c == 0x0D) (not (first t == 0x0A)) e
-  where
-    by : (a b d : Bool) → (a || b) ≡ false → (a || (b && d)) ≡ false
-    by true b d e = e
-    by false true d e = absurd cc
-    by false false d e = refl
-
-not_zero : (n : ℕ) → (suc n == 0) ≡ false
-not_zero n = grind (arith, nat_tests)
-
-step_line : (h : Here) (c : ℕ) (t : List ℕ) → h.unread.text ≡ c ∷ t → is_break c ≡ false
-    → (step h).place.line ≡ h.place.line
-unfolding step
-step_line h c t e n =
-    let some : (length h.unread.text == 0) ≡ false = ap (λ (l : List ℕ). length l == 0) e
-    ∙ not_zero (length t) in
-    let inside : ends_line h.unread.text ≡ false = ap ends_line e ∙ no_line_end c t n in
-    rw (some, inside) refl
 
 same_line : (cs more : List ℕ) (h : Here) → h.unread.text ≡ cs ++ more → Each is_bare cs
     → (over cs h).place.line ≡ h.place.line

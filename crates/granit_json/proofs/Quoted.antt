@@ -1,31 +1,32 @@
 -- A string of JSON stands as a double-quoted scalar: as a value, and as a name that may be a key.
-use Rattle.std.proofs.Common.{Bool, List, [], ap, append_assoc, arith, false, inl, inr, length, refl, subst, sym}
+use Rattle.std.proofs.Common.{Bool, List, [], ap, append_assoc, false, inl, inr, length, refl, subst, sym}
 use Rattle.std.proofs.Common.{drop, true, ℕ, ◌&&◌, ◌++◌, ◌==◌, ◌||◌, ◌∙◌, ◌∷◌, ◌≡◌, ◌⊎◌}
 use Rattle.std.proofs.Common.{ap₂}
+use Rattle.std.proofs.Math.Bool.{and-true}
 use Rattle.std.proofs.lemmas.Bool.{and_from, or_left, or_right}
-use Rattle.std.proofs.lemmas.Bool.Decides.{nat_tests}
 use Rattle.std.specs.List.{list_all}
 use Rattle.std.specs.Prelude.{None}
 use Rattle.granit_base.specs.Classes.{is_break, is_printable}
 use Rattle.granit_base.specs.Place.{Mark, first}
 use Rattle.granit_base.specs.Written.{Written}
 use Rattle.granit_base.specs.declared.style.ScalarStyle.TheVariants.{DoubleQuoted}
-use Rattle.granit_canonical.proofs.Calm.{Calm, Fine, Mild, Shape, calm_closed, calm_noded, shape_flow}
+use Rattle.granit_canonical.proofs.Calm.{Calm, Fine, Mild, Shape, calm_closed, calm_noded, shape_flow, no_cut_fits}
 use Rattle.granit_canonical.proofs.Places.{Held, Starts, directly, gap_stops, gap_to, marked, past_all}
+use Rattle.granit_canonical.proofs.Quotes.{quote_begins, mark_trails, closing_quote, mark_prints}
 use Rattle.granit_canonical.proofs.Signs.{source_is}
-use Rattle.granit_canonical.proofs.Taking.{Taken, begins_text, begins_with, is_mark, passed_at}
+use Rattle.granit_canonical.proofs.Taking.{Taken, begins_text, is_mark, passed_at}
 use Rattle.granit_canonical.specs.Canonical.{spot, stretch}
 use Rattle.granit_error.specs.OptionsData.{OptionsData}
-use Rattle.granit_json.proofs.Gaps.{Ends, at_end, at_sign, ends_start, mark_prints, tail_past}
-use Rattle.granit_json.proofs.Open.{IsOpen, open_cut, open_inside, open_tabs}
+use Rattle.granit_json.proofs.Gaps.{Ends, at_end, at_sign, ends_start, tail_past}
+use Rattle.granit_json.proofs.Open.{IsOpen, open_inside, open_tabs}
 use Rattle.granit_json.proofs.Strings.{all_kept, between_json}
 use Rattle.granit_json.specs.JsonEvents.{string_text}
 use Rattle.granit_json.specs.JsonScalars.{IsString, is_unescaped}
 use Rattle.granit_language.specs.Allowed.{MayPrefix}
 use Rattle.granit_language.specs.Before.{in_front}
-use Rattle.granit_language.specs.Begins.{Begins, quote}
 use Rattle.granit_language.specs.Reached.{BeginsAt, GivenAt, ends_column_by}
 use Rattle.granit_language.specs.Standing.{in_front_of_lexeme, quoted_lexeme_of}
+use Rattle.granit_lexemes.proofs.CharTests.{break_prints}
 use Rattle.granit_lexemes.specs.Basics.{lent_if}
 use Rattle.granit_lexemes.specs.Gap.{Each, IsGap}
 use Rattle.granit_lexemes.specs.Here.{Here, mark_of}
@@ -34,7 +35,7 @@ use Rattle.granit_lexemes.specs.Lexeme.{Lexeme, OfLexeme, Scalar}
 use Rattle.granit_lexemes.specs.PlainExtent.{over}
 use Rattle.granit_lexemes.specs.QuotedExtent.{is_unchanged}
 use Rattle.granit_lexemes.specs.QuotedExtent.{Blanks, ends_quoted, nothing, on_line, quoted_answer, quoted_end}
-use Rattle.granit_lexemes.specs.QuotedScalar.{is_closing, is_kept, may_trail}
+use Rattle.granit_lexemes.specs.QuotedScalar.{is_kept, may_trail}
 use Rattle.granit_lexemes.specs.declared.layout.Bracket.{Bracket}
 use Rattle.granit_lexemes.specs.declared.layout.LastLexeme.TheVariants.{Adjacent}
 use Rattle.granit_machine.specs.Columns.{closed_at}
@@ -45,21 +46,7 @@ use Rattle.granit_machine.specs.PossibleKeys.{layout_of}
 use Rattle.granit_machine.specs.ReaderState.{ReaderState}
 use Rattle.granit_reading.proofs.Deciding.{layout_is}
 
-quote_begins : (flow adjacent : Bool) (column : ℕ) (text : List ℕ)
-    → Begins flow adjacent column (0x22 ∷ text) (Placed (QuoteSign false))
-unfolding is_printable is_break
-quote_begins flow adjacent column text =
-    begins_with flow adjacent column 0x22 text (QuoteSign false) refl refl refl refl (quote false)
-
-closing_quote : (rest : List ℕ) → is_closing false (0x22 ∷ rest) ≡ true
-unfolding is_closing
-closing_quote rest = refl
-
 -- ---- what may follow
-
-break_prints : (c : ℕ) → is_break c ≡ true → is_printable c ≡ true
-unfolding is_printable is_break
-break_prints c e = grind (arith, nat_tests)
 
 -- the end of the text, or in brackets `,`, `:` or a closer
 pub data Trailing (flow : Bool) : List ℕ → Type 0 where
@@ -84,12 +71,6 @@ unfolding may_trail
 break_trails at v c e =
     or_left (is_break c || (at.in_flow && ((c == 0x2C || c == 0x3A) || (c == 0x5D || c == 0x7D)))) (v && c == 0x3A)
     (or_left (is_break c) (at.in_flow && ((c == 0x2C || c == 0x3A) || (c == 0x5D || c == 0x7D))) e)
-
-mark_trails : (at : LayoutData) (v : Bool) (c : ℕ) → at.in_flow ≡ true → is_mark c ≡ true → may_trail at v c ≡ true
-unfolding may_trail
-mark_trails at v c f e =
-    or_left (is_break c || (at.in_flow && is_mark c)) (v && c == 0x3A)
-    (or_right (is_break c) (at.in_flow && is_mark c) (and_from at.in_flow (is_mark c) f e))
 
 trails_rest : (at : LayoutData) (v : Bool) (rest : List ℕ) → Trailing at.in_flow rest
     → (length rest == 0 || (is_printable (first rest) && may_trail at v (first rest))) ≡ true
@@ -137,17 +118,13 @@ pub record QuotedHere (o : OptionsData) (x from to rest : List ℕ) (text : Writ
   pub cut : behind.laid.cut ≡ None
   pub last : behind.laid.last ≡ Adjacent
 
-with_true : (a : Bool) → (a && true) ≡ a
-with_true true = refl
-with_true false = refl
-
 -- the text is lent where nothing between the quotes is escaped
 text_is : (source chars inside : List ℕ) (h : Here) → IsString source chars → Each is_printable source
     → source ≡ inside → h.unread.lends ≡ true → lent_if (is_unchanged false inside) h chars ≡ string_text source chars
 text_is source chars inside h is p e lends =
     ap₂ (λ (kept lends : Bool). record { characters = chars; is_borrowed = kept && lends })
     (ap (list_all (is_kept false)) (sym e) ∙ all_kept source chars is p) lends
-    ∙ ap (λ (lent : Bool). record { characters = chars; is_borrowed = lent }) (with_true (list_all is_unescaped source))
+    ∙ ap (λ (lent : Bool). record { characters = chars; is_borrowed = lent }) (and-true (list_all is_unescaped source))
 
 module _ (o : OptionsData) (x : List ℕ) where
   pub quotes_here : (source chars g rest : List ℕ) (t : ReaderState) → IsString source chars
@@ -216,7 +193,7 @@ module _ (o : OptionsData) (x : List ℕ) where
                   stops = gap_stops (MayPrefix inner) rest (over bb.gap tail.after) r.text st;
                 })
                 (ap (λ (s : List ℕ). first s == 0x23) r.text ∙ st.no_comment) (open_tabs o inner at.here ready.columns)
-                (open_cut inner at.here ready.cut);
+                (no_cut_fits inner at.here ready.cut);
             gives = refl;
             leaves = refl;
           },

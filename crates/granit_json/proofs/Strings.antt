@@ -1,4 +1,6 @@
 -- What stands between the quotes of a JSON string spells its characters as YAML does.
+use Rattle.granit_lexemes.proofs.CharTests.{backslash_stops}
+use Rattle.granit_lexemes.proofs.DecodingLemmas.{u_wants_four}
 use Rattle.granit_lexemes.specs.Decoding as decoding
 use Rattle.granit_lexemes.specs.QuotedExtent as quoted
 use Rattle.std.proofs.Common.{Bool, List, [], ap, append_assoc, arith, false, refl, subst, sym, true, ℕ, ◌++◌, ◌==◌}
@@ -10,22 +12,16 @@ use Rattle.std.proofs.lemmas.List.{append-nil}
 use Rattle.std.specs.List.{list_all}
 use Rattle.std.specs.Prelude.{Some}
 use Rattle.granit_base.specs.Classes.{is_blank, is_break, is_gap, is_printable}
+use Rattle.granit_canonical.proofs.Quoting.{one_more_blank}
 use Rattle.granit_json.specs.JsonScalars.{IsString, ShortEscape, SpellsCharacter, backslash, backspace, carriage_return}
 use Rattle.granit_json.specs.JsonScalars.{form_feed, halves, is_unescaped, itself, line_feed, no_more, numbered}
 use Rattle.granit_json.specs.JsonScalars.{one_more, quote, short, slash, tab}
-use Rattle.granit_lexemes.specs.Decoding.{Escape, digit_count, letter_value}
+use Rattle.granit_lexemes.specs.Decoding.{Escape, letter_value}
 use Rattle.granit_lexemes.specs.Gap.{Each}
 use Rattle.granit_lexemes.specs.LayoutData.{LayoutData}
 use Rattle.granit_lexemes.specs.QuotedExtent.{Blanks, Inside, Piece, content, nothing, on_line}
 use Rattle.granit_lexemes.specs.QuotedScalar.{is_kept, is_literal}
-
-pub each_behind : (test : ℕ → Bool) (a b : List ℕ) → Each test (a ++ b) → Each test b
-each_behind test [] b e = e
-each_behind test (c ∷ cs) b e = each_behind test cs b e.1
-
-pub each_front : (test : ℕ → Bool) (a b : List ℕ) → Each test (a ++ b) → Each test a
-each_front test [] b e = tt
-each_front test (c ∷ cs) b e = (e.0, each_front test cs b e.1)
+use Rattle.granit_scalars.proofs.QuotedFolding.{each_behind, each_front}
 
 short_letter : (l c : ℕ) → ShortEscape l c → letter_value l ≡ Some c
 unfolding letter_value
@@ -38,21 +34,9 @@ short_letter _ _ line_feed = refl
 short_letter _ _ carriage_return = refl
 short_letter _ _ tab = refl
 
-u_counts : digit_count 0x75 ≡ Some 4
-unfolding digit_count
-u_counts = refl
-
 literal_is : (c : ℕ) → is_unescaped c ≡ true → is_printable c ≡ true → (c == 0x20) ≡ false → is_literal false c ≡ true
 unfolding is_unescaped is_literal is_printable is_gap is_blank is_break
 literal_is c u p n = grind (arith, nat_tests)
-
-blank_space : is_blank 0x20 ≡ true
-unfolding is_blank
-blank_space = refl
-
-one_more_blank : (bl : List ℕ) → Each is_blank bl → Each is_blank (bl ++ 0x20 ∷ [])
-one_more_blank [] e = (blank_space, tt)
-one_more_blank (b ∷ bl) e = (e.0, one_more_blank bl e.1)
 
 -- what stands between the quotes behind these blanks: content, and the blanks behind it
 pub record Between (at : LayoutData) (bl source text behind : List ℕ) : Type 0 where
@@ -113,7 +97,7 @@ spelled at bl source text behind _ more c b e i (short {l = l} s) spaced direct 
     (as_escape (0x5C ∷ l ∷ []) c (decoding.letter (short_letter l c s))) direct
 spelled at bl source text behind _ more _ b e i (numbered {digits = ds} d s) spaced direct =
     with_piece at bl source text behind (0x5C ∷ 0x75 ∷ ds) more (decoding.number_of ds) b e
-    (as_escape (0x5C ∷ 0x75 ∷ ds) (decoding.number_of ds) (decoding.number u_counts d s)) direct
+    (as_escape (0x5C ∷ 0x75 ∷ ds) (decoding.number_of ds) (decoding.number u_wants_four d s)) direct
 spelled at bl source text behind _ more _ b e i (halves {high = high} {low = low} d h k w) spaced direct =
     with_piece at bl source text behind (0x5C ∷ 0x75 ∷ (high ++ 0x5C ∷ 0x75 ∷ low)) more
     (decoding.joined (decoding.number_of high) (decoding.number_of low)) b e
@@ -144,17 +128,13 @@ unescaped_kept : (c : ℕ) → is_unescaped c ≡ true → is_printable c ≡ tr
 unfolding is_unescaped is_literal is_printable is_gap is_blank is_break
 unescaped_kept c u p = grind (arith, nat_tests)
 
-backslash_kept : is_kept false 0x5C ≡ false
-unfolding is_blank is_break is_gap is_printable is_literal
-backslash_kept = refl
-
 backslash_escaped : is_unescaped 0x5C ≡ false
 unfolding is_unescaped
 backslash_escaped = refl
 
 escapes : (rest : List ℕ) → list_all (is_kept false) (0x5C ∷ rest) ≡ list_all is_unescaped (0x5C ∷ rest)
 escapes rest =
-    ap (λ b. b && list_all (is_kept false) rest) backslash_kept
+    ap (λ b. b && list_all (is_kept false) rest) backslash_stops
     ∙ sym (ap (λ b. b && list_all is_unescaped rest) backslash_escaped)
 
 itself_kept : (c : ℕ) (more : List ℕ) → is_unescaped c ≡ true → is_printable c ≡ true

@@ -1,9 +1,8 @@
 -- JSON values are read as nodes with their events, each where its text stands.
 use Rattle.granit_lexemes.specs.Lexeme as lexemes
 use Rattle.granit_machine.specs.LexemeSort as sorts
-use Rattle.std.proofs.Common.{Bool, List, [], ap, arith, drop, false, length, max, refl, subst, suc, sym, true, zero, ℕ}
+use Rattle.std.proofs.Common.{Bool, List, [], ap, arith, drop, false, length, refl, subst, suc, sym, true, zero, ℕ}
 use Rattle.std.proofs.Common.{◌+◌, ◌++◌, ◌∙◌, ◌∷◌, ◌≡◌, ◌≤◌, ap₂}
-use Rattle.std.proofs.Math.Nat.{le-max_left, le-max_right}
 use Rattle.std.specs.Prelude.{None, Some}
 use Rattle.granit_base.specs.Classes.{is_printable}
 use Rattle.granit_base.specs.Place.{Mark}
@@ -14,6 +13,7 @@ use Rattle.granit_canonical.proofs.Nodes.{closer_starts, comma_starts, quote_sta
 use Rattle.granit_canonical.proofs.Passing.{plain_inside, plain_item}
 use Rattle.granit_canonical.proofs.Places.{Before}
 use Rattle.granit_canonical.proofs.Taking.{reads_one}
+use Rattle.granit_canonical.proofs.Trees.{most_both}
 use Rattle.granit_canonical.specs.Canonical.{spot, stretch}
 use Rattle.granit_error.specs.OptionsData.{OptionsData}
 use Rattle.granit_json.proofs.Bares.{sound}
@@ -25,7 +25,6 @@ use Rattle.granit_json.proofs.Nodes.{Front, NodeRead, flow_read, no_contents, sc
 use Rattle.granit_json.proofs.Passing.{Passage, passage_name, passage_one, passage_then}
 use Rattle.granit_json.proofs.Plains.{takes_bare}
 use Rattle.granit_json.proofs.Quoted.{takes_string}
-use Rattle.granit_json.proofs.Strings.{each_behind, each_front}
 use Rattle.granit_json.specs.Json.{Elements, Json, Members, elements_depth, json_depth, members_depth}
 use Rattle.granit_json.specs.JsonEvents.{element_events, first_source, member_events, members_events, part_events}
 use Rattle.granit_json.specs.JsonEvents.{scalar_of, string_text, value_events}
@@ -54,9 +53,7 @@ use Rattle.granit_lexemes.specs.declared.layout.Bracket.TheVariants.{Curly, Squa
 use Rattle.granit_machine.specs.Laid.{is_opener}
 use Rattle.granit_machine.specs.ReaderState.{ReaderState}
 use Rattle.granit_machine.specs.PossibleKeys.{start_of_key}
-
-most_both : (a b n m : ℕ) → max a b + n ≤ m → (a + n ≤ m) × (b + n ≤ m)
-most_both a b n m h = (omega (arith, h, le-max_left a b), omega (arith, h, le-max_right a b))
+use Rattle.granit_scalars.proofs.QuotedFolding.{each_behind, each_front}
 
 each_left : (test : ℕ → Bool) (i : ℕ) (x : List ℕ) → Each test x → Each test (drop i x)
 each_left test zero x e = e

@@ -8,7 +8,7 @@ use Rattle.granit_base.specs.Classes.{is_printable}
 use Rattle.granit_base.specs.Place.{Mark}
 use Rattle.granit_canonical.proofs.Calm.{Calm, calm_start}
 use Rattle.granit_canonical.proofs.Marks.{takes_end}
-use Rattle.granit_canonical.proofs.Passing.{means_append, plain_root, scoped_append}
+use Rattle.granit_canonical.proofs.Passing.{means_append, plain_root}
 use Rattle.granit_canonical.proofs.Places.{Before, Held, starts_end, starts_held}
 use Rattle.granit_canonical.proofs.Taking.{Taken, reads_one}
 use Rattle.granit_canonical.specs.Canonical.{spot}
@@ -20,6 +20,7 @@ use Rattle.granit_json.proofs.Values.{value_read}
 use Rattle.granit_json.specs.Json.{Json, json_depth}
 use Rattle.granit_json.specs.JsonEvents.{first_source, json_events, value_events}
 use Rattle.granit_json.specs.JsonText.{JsonText, NamesFit, part}
+use Rattle.granit_language.proofs.Scopes.{scoped_append}
 use Rattle.granit_language.specs.Node.{BareRoot, Beginning, EndRooted}
 use Rattle.granit_language.specs.Reached.{ReadWhole}
 use Rattle.granit_language.specs.Scope.{Scope, no_scope}

@@ -19,7 +19,15 @@ step_over (c ∷ cs) h e = rw (← e, not_empty c cs) refl
 pub step_text : (h : Here) → (step h).unread.text ≡ drop 1 h.unread.text
 step_text h = step_over h.unread.text h refl
 
-if_lends : (b : Bool) (g h : Here) (l : Bool) → g.unread.lends ≡ l → h.unread.lends ≡ l → (cond b g h).unread.lends ≡ l
+pub stepped_text : (h : Here) (c : ℕ) (t : List ℕ) → h.unread.text ≡ c ∷ t → (step h).unread.text ≡ t
+stepped_text h c t e = step_text h ∙ ap (drop 1) e
+
+pub stays_at_end : (h : Here) → h.unread.text ≡ [] → step h ≡ h
+unfolding step
+stays_at_end h e = rw e refl
+
+pub if_lends : (b : Bool) (g h : Here) (l : Bool) → g.unread.lends ≡ l → h.unread.lends ≡ l
+    → (cond b g h).unread.lends ≡ l
 if_lends true g h l p q = p
 if_lends false g h l p q = q
 
@@ -87,3 +95,11 @@ either_not false false d e = refl
 pub no_line_end : (c : ℕ) (cs : List ℕ) → is_break c ≡ false → ends_line (c ∷ cs) ≡ false
 unfolding is_break
 no_line_end c cs n = either_not (c == 0x0A) (c == 0x0D) (not (first cs == 0x0A)) n
+
+pub step_line : (h : Here) (c : ℕ) (t : List ℕ) → h.unread.text ≡ c ∷ t → is_break c ≡ false →
+    (step h).place.line ≡ h.place.line
+unfolding step
+step_line h c t e n =
+    let some : (length h.unread.text == 0) ≡ false = ap (λ (l : List ℕ). length l == 0) e ∙ not_empty c t in
+    let inside : ends_line h.unread.text ≡ false = ap ends_line e ∙ no_line_end c t n in
+    rw (some, inside) refl

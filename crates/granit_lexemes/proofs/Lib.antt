@@ -1,3 +1,4 @@
+pub mod CharTests
 pub mod DecodingLemmas
 pub mod HereLemmas
 pub mod PieceLemmas

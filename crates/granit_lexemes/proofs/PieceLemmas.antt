@@ -5,6 +5,12 @@ use Rattle.std.proofs.lemmas.List.{append-nil}
 use Rattle.granit_error.specs.Refused.{Refused}
 use Rattle.granit_lexemes.specs.Outcome.{Fault, Fails, ◌>>=◌}
 use Rattle.granit_lexemes.specs.Pieces.{with_front, then_more, turns, pieces, Shortens}
+use Rattle.std.proofs.Common.{true}
+use Rattle.std.specs.Prelude.{is_none}
+
+pub fault_none : (f : Option Fault) → is_none f ≡ true → f ≡ None
+fault_none None e = refl
+fault_none (Some f) e = absurd cc
 
 pub with_front-nil : {S A : Type 0} (given : Result (List A × S) Fault) → with_front [] given ≡ given
 with_front-nil (Ok x) = refl
@@ -80,3 +86,6 @@ pub loop_fails : {S A : Type 0} (size : S → ℕ) (turn : S → Result (Option 
     → with_front front (pieces size turn now) ≡ total → Fails e (turn now) → Fails e total
 loop_fails size turn front now e total so_far is other = sym so_far
     ∙ ap (with_front front) (pieces_fails size turn now _ (is other))
+
+pub same_error : {Y : Type 0} (g f : Fault) → ◌≡◌ {A = Result Y Fault} (Err g) (Err f) → g ≡ f
+same_error g f e = cc

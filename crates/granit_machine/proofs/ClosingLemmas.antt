@@ -1,10 +1,12 @@
 -- Each turn of closing ends a frame.
 use Rattle.std.proofs.Common.{◌≡◌, ℕ, suc, ◌<◌, ◌≤◌, Bool, true, false, List, [], ◌∷◌, ◌++◌, length, Option, Some, None}
-use Rattle.std.proofs.Common.{Ok, Err, refl, ap, ◌∙◌, arith}
+use Rattle.std.proofs.Common.{Ok, Err, refl, ap, ◌∙◌, arith, Result}
 use Rattle.std.specs.Prelude.{if◌then◌else◌, is_some}
 use Rattle.granit_base.specs.Place.{Mark}
 use Rattle.granit_base.specs.Written.{Written}
 use Rattle.granit_error.specs.OptionsData.{OptionsData}
+use Rattle.granit_lexemes.specs.Comment.{CommentRead}
+use Rattle.granit_lexemes.specs.Outcome.{Fault}
 use Rattle.granit_lexemes.specs.Pieces.{Shortens}
 use Rattle.granit_lexemes.specs.PlainEvent.{PlainEvent, PlainTag, EventKind, event_at, Anchor}
 use Rattle.granit_lexemes.specs.Source.{Source}
@@ -14,27 +16,36 @@ use Rattle.granit_machine.specs.Frames.{WithProperties, BlockSequence, BlockMapp
 use Rattle.granit_machine.specs.Frames.{FlowPair, Waiting, ParserState}
 use Rattle.granit_machine.specs.Giving.{flush_held, put, give, empty_by, below_properties, tell_anchor, node_event_by}
 use Rattle.granit_machine.specs.Giving.{node_event, null_at, with_indent, anchor_number, tag_value, span_with_tag}
-use Rattle.granit_machine.specs.Giving.{key_indent, properties_on}
+use Rattle.granit_machine.specs.Giving.{key_indent, properties_on, flush}
 use Rattle.granit_machine.specs.NodeEnds.{finish_in, finish, owed_in, owed, below, end_kind, end_node, end_properties}
 use Rattle.granit_machine.specs.NodeEnds.{null_node, empty_span}
-use Rattle.granit_machine.specs.TokenSort.{Token}
+use Rattle.granit_machine.specs.NodeSteps.{give_tail}
+use Rattle.granit_machine.specs.TokenSort.{Token, OfStream, column_of_token, ends_frame, token_column}
+use Rattle.granit_machine.specs.TokenSort.{TokenSort, DashToken, is_dash_token, begins_pair}
 
-flush_held-frames : (w : Option Waiting) (p : ParserState) → (flush_held w p).frames ≡ p.frames
+pub no_dash_pair : (sort : TokenSort) → begins_pair sort ≡ true → is_dash_token sort ≡ false
+no_dash_pair DashToken e = absurd cc
+no_dash_pair sort e = refl
+
+pub flush_held-frames : (w : Option Waiting) (p : ParserState) → (flush_held w p).frames ≡ p.frames
 flush_held-frames None p = refl
 flush_held-frames (Some w) p = refl
+
+pub flush_frames : (p : ParserState) → (flush p).frames ≡ p.frames
+flush_frames p = flush_held-frames p.waiting p
 
 give-frames : (e : PlainEvent) (p : ParserState) → (give e p).frames ≡ p.frames
 give-frames e p = flush_held-frames p.waiting p
 
-give_twice-frames : (e d : PlainEvent) (p : ParserState) → (give e (give d p)).frames ≡ p.frames
+pub give_twice-frames : (e d : PlainEvent) (p : ParserState) → (give e (give d p)).frames ≡ p.frames
 give_twice-frames e d p = give-frames e (give d p) ∙ give-frames d p
 
-empty_by-frames : (w : Option Waiting) (p : ParserState) → (empty_by w p).frames ≡ p.frames
+pub empty_by-frames : (w : Option Waiting) (p : ParserState) → (empty_by w p).frames ≡ p.frames
 empty_by-frames None p = refl
 empty_by-frames (Some w) p = flush_held-frames p.waiting (put (null_at w.at) p)
 
 -- the events that a pair owes leave the frames
-owed_in-frames : (fs : List Frame) (x : Mark) (p : ParserState) → (owed_in fs x p).frames ≡ p.frames
+pub owed_in-frames : (fs : List Frame) (x : Mark) (p : ParserState) → (owed_in fs x p).frames ≡ p.frames
 owed_in-frames (BlockSequence column indentless ∷ fs) x p = empty_by-frames p.waiting p
 owed_in-frames (BlockMapping column AtValue ∷ fs) x p = empty_by-frames p.waiting p
 owed_in-frames (FlowMapping single AtValue ∷ fs) x p = empty_by-frames p.waiting p
@@ -76,7 +87,7 @@ if_frames : (b : Bool) (p q : ParserState) (fs : List Frame) → p.frames ≡ fs
 if_frames true p q fs x y = x
 if_frames false p q fs x y = y
 
-tell_anchor-frames : (o : OptionsData) (a : Option (ℕ × Written × Source)) (p : ParserState)
+pub tell_anchor-frames : (o : OptionsData) (a : Option (ℕ × Written × Source)) (p : ParserState)
     → (tell_anchor o a p).frames ≡ p.frames
 tell_anchor-frames o None p = refl
 tell_anchor-frames o (Some a) p = if_frames o.emit_anchor_events
@@ -92,7 +103,7 @@ node_event_by-frames o q kind source indent p =
     } in
     tell_anchor-frames o q.anchor (give e p) ∙ give-frames e p
 
-node_event-frames : (o : OptionsData) (kind : ℕ → Option PlainTag → EventKind) (source : Source) (indent : Option ℕ)
+pub node_event-frames : (o : OptionsData) (kind : ℕ → Option PlainTag → EventKind) (source : Source) (indent : Option ℕ)
     (p : ParserState) → (node_event o kind source indent p).frames ≡ below_properties p.frames
 unfolding node_event
 node_event-frames o kind source indent p = node_event_by-frames o (properties_on p.frames source.end) kind source indent
@@ -131,7 +142,7 @@ abbrev is_more : Closing → Bool
 is_more (Ok x) = is_some x.0
 is_more (Err f) = false
 
-abbrev close_by : Bool → OptionsData → Token → ParserState → Closing
+abbrev pub close_by : Bool → OptionsData → Token → ParserState → Closing
 close_by b o t p = if b then Ok (Some [], end_top o t p p.frames) else Ok (None, p)
 
 closes_as : (o : OptionsData) (t : Token) (p after : ParserState) (piece : List PlainEvent) (b : Bool)
@@ -146,3 +157,13 @@ closes_as o t p after piece false ends e = absurd (let m : is_more (Ok (None, p)
 pub close_turn-Shortens : (o : OptionsData) (t : Token) → Shortens depth (close_turn o t)
 unfolding close_turn
 close_turn-Shortens o t p after piece e = closes_as o t p after piece (ends_top t p p.frames) refl e
+
+pub tail_frames : (tail : Option CommentRead) (p : ParserState) → (give_tail tail p).frames ≡ p.frames
+tail_frames None p = refl
+tail_frames (Some c) p = flush_frames p
+
+pub every_frame_ends : (t : Token) (column : ℕ) → t.sort ≡ OfStream → ends_frame (token_column t) column ≡ true
+every_frame_ends t column e = ap (λ s. ends_frame (column_of_token s t.lexeme.start.place.column) column) e
+
+abbrev pub FeedGiven : Type 0
+FeedGiven = Result (List PlainEvent × ParserState) Fault

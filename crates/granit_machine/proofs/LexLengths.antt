@@ -191,8 +191,11 @@ reads_as s after piece (Ok x) p e =
     omega (arith, q, m)
 reads_as s after piece (Err f) p e = absurd (let m : is_more (behind_read (Err f) s) ≡ true = ap is_more e in cc)
 
-abbrev lex_by : Bool → OptionsData → LexState → LexTurn
+abbrev pub lex_by : Bool → OptionsData → LexState → LexTurn
 lex_by b o s = if b then Ok (None, s) else behind_read (read o s.reader) s.reader
+
+abbrev pub at_read : ReaderState → LexState
+at_read s = record { reader = s; ended = false; fault = None }
 
 turns_as : (o : OptionsData) (s after : LexState) (piece : List Item) (b : Bool) → s.ended ≡ b
     → lex_by b o s ≡ Ok (Some piece, after) → lex_len after < lex_len s

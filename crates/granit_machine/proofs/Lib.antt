@@ -2,6 +2,7 @@ pub mod BlockLengths
 pub mod ClosingLemmas
 pub mod LengthLemmas
 pub mod LexLengths
+pub mod NoneWaits
 pub mod ReadLengths
 pub mod ScalarLengths
 pub mod SortLemmas

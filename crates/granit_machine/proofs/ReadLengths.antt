@@ -1,6 +1,7 @@
 -- Each lexeme takes a character.
-use Rattle.std.proofs.Common.{◌≡◌, ℕ, suc, ◌-◌, ◌≤◌, ◌==◌, ◌||◌, Bool, true, false, List, [], ◌∷◌, length, Option, Some}
+use Rattle.std.proofs.Common.{◌≡◌, ℕ, suc, ◌-◌, ◌≤◌, ◌==◌, Bool, true, false, List, [], ◌∷◌, length, Option, Some}
 use Rattle.std.proofs.Common.{None, Result, Ok, Err, refl, arith}
+use Rattle.std.proofs.lemmas.Bool.{or_parts}
 use Rattle.std.specs.Prelude.{if◌then◌else◌}
 use Rattle.std.proofs.lemmas.List.{length-drop}
 use Rattle.granit_base.specs.Classes.{is_blank, is_break, is_gap}
@@ -60,7 +61,7 @@ past_prefix_mark-fits : (n : ℕ) (h : Here) → text_len h ≤ n → text_len (
 unfolding past_prefix_mark
 past_prefix_mark-fits n h p = let m = length-drop 1 h.unread.text in omega (arith, m, p)
 
-past_prefix_mark-less : (n : ℕ) (h : Here) → text_len h ≤ suc n → text_len (past_prefix_mark h) ≤ n
+pub past_prefix_mark-less : (n : ℕ) (h : Here) → text_len h ≤ suc n → text_len (past_prefix_mark h) ≤ n
 unfolding past_prefix_mark
 past_prefix_mark-less n h p = let m = length-drop 1 h.unread.text in omega (arith, m, p)
 
@@ -103,10 +104,6 @@ chosen-stops : (b : Bool) (g h : Here) → is_gap (next_char g) ≡ false → (b
 chosen-stops true g h p q = p
 chosen-stops false g h p q = q refl
 
-first_false : (a b : Bool) → (a || b) ≡ false → a ≡ false
-first_false true b e = e
-first_false false b e = refl
-
 skip_gap-stops : (may_prefix : Bool) (cs : List ℕ) (h : Here) → text_len h ≤ length cs
     → is_gap (next_char (skip_gap may_prefix cs h)) ≡ false
 skip_gap-stops may_prefix [] h p = nothing_left h.unread.text p
@@ -114,7 +111,7 @@ skip_gap-stops may_prefix (c ∷ cs) h p =
     let q : text_len h ≤ suc (length cs) = omega (arith, p) in
     chosen-stops (begins_gap may_prefix h) (skip_gap may_prefix cs (over_gap_char may_prefix h)) h
     (skip_gap-stops may_prefix cs (over_gap_char may_prefix h) (over_gap_char-less may_prefix (length cs) h q))
-    (λ e. first_false (is_gap (next_char h)) (at_prefix_mark may_prefix h) e)
+    (λ e. (or_parts (is_gap (next_char h)) (at_prefix_mark may_prefix h) e).0)
 
 past_gap-stops : (may_prefix : Bool) (h : Here) → is_gap (next_char (past_gap may_prefix h)) ≡ false
 unfolding past_gap

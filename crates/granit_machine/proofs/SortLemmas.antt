@@ -1,16 +1,19 @@
 -- What the sort of a lexeme says of the text.
-use Rattle.std.proofs.Common.{◌≡◌, ℕ, ◌==◌, ◌&&◌, ◌||◌, Bool, true, false, not, refl, sym, ap, arith}
+use Rattle.std.proofs.Common.{◌≡◌, ℕ, ◌==◌, ◌&&◌, ◌||◌, Bool, true, false, not, refl, ap, arith}
+use Rattle.std.proofs.lemmas.Bool.{not-false}
 use Rattle.std.specs.Prelude.{if◌then◌else◌, slice_index}
 use Rattle.std.proofs.lemmas.Bool.Decides.{nat_tests}
 use Rattle.granit_base.specs.Classes.{is_blank, is_break, is_z, is_breakz, is_blank_or_breakz, is_gap, is_flow}
 use Rattle.granit_base.specs.Classes.{is_printable}
 use Rattle.granit_lexemes.specs.Basics.{is_document_mark}
 use Rattle.granit_lexemes.specs.Here.{Here, text_len, next_char}
+use Rattle.granit_lexemes.specs.Lexeme.{LexemeKind, StreamEnd}
 use Rattle.granit_lexemes.specs.declared.layout.Bracket.TheVariants.{Square, Curly}
 use Rattle.granit_base.specs.PlainContent.{is_content}
 use Rattle.granit_machine.specs.LexemeSort.{PlacedSort, LexemeSort, Placed, TextEnd, StartMark, EndMark, Unprintable}
 use Rattle.granit_machine.specs.LexemeSort.{DirectiveSign, OpenSign, CloseSign, CommaSign, DashSign, QuestionSign}
 use Rattle.granit_machine.specs.LexemeSort.{ColonSign, PlainSign, sort_of, sort_at}
+use Rattle.granit_machine.specs.Reader.{is_end_kind}
 
 abbrev is_plain : PlacedSort → Bool
 is_plain PlainSign = true
@@ -29,12 +32,13 @@ past_test : (test : Bool) (sort other : PlacedSort) → is_plain sort ≡ false
 past_test true sort other n is = absurd (no_plain sort n is)
 past_test false sort other n is = (refl, is)
 
-no_flow : (c : ℕ) → (c == 0x5B) ≡ false → (c == 0x7B) ≡ false → (c == 0x5D) ≡ false → (c == 0x7D) ≡ false
+pub no_flow : (c : ℕ) → (c == 0x5B) ≡ false → (c == 0x7B) ≡ false → (c == 0x5D) ≡ false → (c == 0x7D) ≡ false
     → (c == 0x2C) ≡ false → is_flow c ≡ false
 unfolding is_flow
 no_flow c p q r s t = rw (p, q, r, s, t) refl
 
-no_colon : (colon parted in_flow flow adjacent : Bool) → (colon && (parted || (in_flow && (flow || adjacent)))) ≡ false
+pub no_colon : (colon parted in_flow flow adjacent : Bool)
+    → (colon && (parted || (in_flow && (flow || adjacent)))) ≡ false
     → (colon && (parted || (in_flow && flow))) ≡ false
 no_colon false parted in_flow flow adjacent e = refl
 no_colon true true in_flow flow adjacent e = e
@@ -81,7 +85,7 @@ either_false true b c p q = p
 either_false false true c p q = p
 either_false false false c p q = q
 
-no_gap_or_nul : (c : ℕ) → is_gap c ≡ false → is_printable c ≡ true → is_blank_or_breakz c ≡ false
+pub no_gap_or_nul : (c : ℕ) → is_gap c ≡ false → is_printable c ≡ true → is_blank_or_breakz c ≡ false
 unfolding is_gap is_blank_or_breakz is_breakz is_z
 no_gap_or_nul c p q = either_false (is_blank c) (is_break c) (c == 0x00) p (printable_no_nul c (c == 0x00) refl q)
 
@@ -113,10 +117,6 @@ front_plain false false dash true e sort is = absurd (no_plain_placed Unprintabl
 front_plain false false dash false true sort is = absurd (no_plain_placed DirectiveSign refl is)
 front_plain false false dash false false sort is = (refl, placed_plain sort is)
 
-not_false : (b : Bool) → not b ≡ false → b ≡ true
-not_false true e = refl
-not_false false e = sym e
-
 -- where a plain scalar begins behind a gap, it has content
 pub plain_sign-content : (in_flow adjacent : Bool) (h : Here) → is_gap (next_char h) ≡ false
     → sort_at in_flow adjacent h ≡ Placed PlainSign → is_content in_flow h.unread.text ≡ true
@@ -129,4 +129,8 @@ plain_sign-content in_flow adjacent h stops is =
     content_as (is_blank_or_breakz (next_char h))
     (next_char h == 0x3A && (is_blank_or_breakz (slice_index h.unread.text 1)
     || (in_flow && is_flow (slice_index h.unread.text 1)))) in_flow (is_flow (next_char h))
-    (no_gap_or_nul (next_char h) stops (not_false (is_printable (next_char h)) x.0)) y.1 y.0
+    (no_gap_or_nul (next_char h) stops (not-false (is_printable (next_char h)) x.0)) y.1 y.0
+
+pub end_kind_is : (kind : LexemeKind) → is_end_kind kind ≡ true → kind ≡ StreamEnd
+end_kind_is StreamEnd e = refl
+end_kind_is kind e = absurd (cc)

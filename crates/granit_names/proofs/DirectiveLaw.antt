@@ -15,8 +15,8 @@ use Rattle.granit_lexemes.specs.Here.{Here, next_char, mark_of, step}
 use Rattle.granit_lexemes.specs.Outcome.{Fault, ◌>>=◌}
 use Rattle.granit_lexemes.specs.PlainExtent.{over}
 use Rattle.granit_lexemes.specs.Basics.{fails_at}
-use Rattle.granit_lexemes.proofs.HereLemmas.{not_empty}
-use Rattle.granit_scalars.proofs.QuotedEscapes.{text_behind, over_text}
+use Rattle.granit_lexemes.proofs.HereLemmas.{not_empty, stepped_text}
+use Rattle.granit_scalars.proofs.QuotedEscapes.{over_text}
 use Rattle.granit_scalars.proofs.Stepping.{seen, over-append}
 use Rattle.granit_lexemes.specs.Directive.{word_up_to, version_directive, tag_directive, ParameterState}
 use Rattle.granit_lexemes.specs.Directive.{reserved_directive, directive_of, behind_name, directive_at}
@@ -235,7 +235,7 @@ module _ (o : OptionsData) (h : Here) (name rest : List ℕ) (s : DirectiveNameS
   front = s.is.is
 
   pub behind_sign : (step h).unread.text ≡ s.is.text
-  behind_sign = text_behind h 0x25 s.is.text s.is.begins
+  behind_sign = stepped_text h 0x25 s.is.text s.is.begins
 
   pub name_all : All is_yaml_non_space (step h).unread.text name rest
   name_all = subst (λ (l : List ℕ). All is_yaml_non_space l name rest) (sym behind_sign) front

@@ -9,6 +9,7 @@ use Rattle.granit_base.specs.Classes.{is_blank, is_blank_or_breakz, is_yaml_non_
 use Rattle.granit_base.specs.Place.{Mark, first}
 use Rattle.granit_error.specs.FaultKind.{FaultKind, DirectiveByteLimitExceeded, TooManyReservedDirectiveParams}
 use Rattle.granit_error.specs.OptionsData.{OptionsData}
+use Rattle.granit_lexemes.proofs.HereLemmas.{stepped_text}
 use Rattle.granit_lexemes.specs.Basics.{fails_at}
 use Rattle.granit_lexemes.specs.Directive.{DirectiveRead, version_number, minor_number, version_directive}
 use Rattle.granit_lexemes.specs.Directive.{parameter_turn, directive_of, behind_name, directive_at, directive_behind}
@@ -34,8 +35,9 @@ use Rattle.granit_names.proofs.LineLaw.{line_end_wrong}
 use Rattle.granit_names.proofs.ReservedLaw.{budget, reading, bytes-append, long_here, wide_here, many_here}
 use Rattle.granit_names.proofs.ReservedLaw.{reserved_fails}
 use Rattle.granit_names.proofs.ReservedLaw.{reserved_over}
-use Rattle.granit_names.proofs.VersionLaw.{no_blank_nul, all_past, number_run, number_is, some_digits}
-use Rattle.granit_scalars.proofs.QuotedEscapes.{text_behind, over_text}
+use Rattle.granit_names.proofs.TagLaw.{some_is}
+use Rattle.granit_names.proofs.VersionLaw.{no_blank_nul, all_past, number_run, number_is}
+use Rattle.granit_scalars.proofs.QuotedEscapes.{over_text}
 
 -- ---- `%YAML`
 
@@ -87,7 +89,7 @@ module _ (start : Mark) (g : Here) where
   version_fails {kind} (second_wrong {blanks} {behind = more} {digits} {rest} {n} a s w) =
       let point = over digits (over blanks g) in
       let t = digits_text blanks more a digits (0x2E ∷ rest) n s in
-      let u = text_behind point 0x2E rest t in
+      let u = stepped_text point 0x2E rest t in
       past_number blanks more a digits (0x2E ∷ rest) n s
       ∙ ap (λ r. r >>= with_major n) (cond-true (next_char point == 0x2E) _ _
       (ap (λ (l : List ℕ). first l == 0x2E) t)
@@ -211,7 +213,7 @@ module _ (o : OptionsData) (h : Here) where
   name_there : {name rest : List ℕ} → (d : DirectiveName h name rest)
       → All is_yaml_non_space (step h).unread.text name rest
   name_there {name} {rest} d = subst (λ (l : List ℕ). All is_yaml_non_space l name rest)
-      (sym (text_behind h 0x25 d.text d.begins)) d.is
+      (sym (stepped_text h 0x25 d.text d.begins)) d.is
 
   abbrev with_place : Here → Option Budget → Result (Option Budget × Here) Fault
   with_place i l = Ok (l, i)
@@ -233,7 +235,7 @@ module _ (o : OptionsData) (h : Here) where
       let e : nat_lt o.max_directive_bytes (bytes_of name) ≡ false = grind (arith, nat_tests) in
       name_run o h name rest a ∙ ap (within_by name) e
       ∙ behind_is o h name (budget o (mark_of h) o.max_directive_bytes (o.max_directive_bytes - bytes_of name)) rest a
-      ∙ cond-false (length name == 0) _ _ (some_digits name some)
+      ∙ cond-false (length name == 0) _ _ (some_is name some)
       ∙ cond-true (not (is_blank_or_breakz (next_char (over name (step h))))) _ _
       (ap (λ (l : List ℕ). not (is_blank_or_breakz (first l))) (over_text name rest (step h) a.whole) ∙ ap not n)
   wrong_refused (long_name {name} {rest} d l) f =

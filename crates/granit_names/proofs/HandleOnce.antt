@@ -11,12 +11,13 @@ use Rattle.granit_base.specs.Classes.{is_blank, is_blank_or_breakz, is_alpha, is
 use Rattle.granit_base.specs.Classes.{is_uri_char, is_tag_char}
 use Rattle.granit_base.specs.Place.{Mark, first}
 use Rattle.granit_error.specs.FaultKind.{ExpectedTagDirectiveBang}
+use Rattle.granit_lexemes.proofs.HereLemmas.{stepped_text}
 use Rattle.granit_lexemes.specs.Gap.{Each}
 use Rattle.granit_lexemes.specs.Here.{Here, next_char, step, past}
 use Rattle.granit_lexemes.specs.Outcome.{Fault, ◌>>=◌}
 use Rattle.granit_lexemes.specs.PlainExtent.{over}
 use Rattle.granit_lexemes.specs.Basics.{fails_at}
-use Rattle.granit_scalars.proofs.QuotedEscapes.{text_behind, over_text}
+use Rattle.granit_scalars.proofs.QuotedEscapes.{over_text}
 use Rattle.granit_scalars.proofs.Stepping.{over-append}
 use Rattle.granit_lexemes.specs.Basics.{count_up_to, text_up_to}
 use Rattle.granit_lexemes.specs.Directive.{blanks_within, handle_by, handle_at, prefix_ends, prefix_at}
@@ -132,7 +133,7 @@ module _ (start : Mark) (limit : ℕ) where
       let q = over word (step place) in
       let u : place.unread.text ≡ 0x21 ∷ (word ++ 0x21 ∷ behind) = t
       ∙ ap (λ (k : List ℕ). 0x21 ∷ k) (append_assoc word (0x21 ∷ []) behind) in
-      let v : (step place).unread.text ≡ word ++ 0x21 ∷ behind = text_behind place 0x21 (word ++ 0x21 ∷ behind) u in
+      let v : (step place).unread.text ≡ word ++ 0x21 ∷ behind = stepped_text place 0x21 (word ++ 0x21 ∷ behind) u in
       let e : step q ≡ over (0x21 ∷ (word ++ 0x21 ∷ [])) place = sym (over-append word (0x21 ∷ []) (step place)) in
       let k : count_up_to place (step q) ≡ length (0x21 ∷ (word ++ 0x21 ∷ [])) = ap (count_up_to place) e
       ∙ count_over (0x21 ∷ (word ++ 0x21 ∷ [])) behind place t in
@@ -143,7 +144,7 @@ module _ (start : Mark) (limit : ℕ) where
       (omega arith)
       ∙ ap₂ (λ n (i : Here). Ok (budget (left - n), i)) k e
   handle_is left place handle behind (alone n m) t l =
-      let v : (step place).unread.text ≡ behind = text_behind place 0x21 behind t in
+      let v : (step place).unread.text ≡ behind = stepped_text place 0x21 behind t in
       bang_at left place behind t
       ∙ ap (handle_by (budget left) start place) (past_run is_alpha no_alpha_nul [] behind (step place) v tt n)
       ∙ lone_is left place (step place) (ap (λ (w : List ℕ). first w == 0x21) v ∙ m)
@@ -181,7 +182,7 @@ module _ (start : Mark) (limit : ℕ) where
     unfolding prefix_at
     bang_is more text s t l =
         let b = behind_bang 0x21 more text s.bytes refl s.spells s.scalar s.encodes in
-        let u : (step g).unread.text ≡ more ++ rest = text_behind g 0x21 (more ++ rest) t in
+        let u : (step g).unread.text ≡ more ++ rest = stepped_text g 0x21 (more ++ rest) t in
         let d = decoded_kept (left - 1) (step g) more b.value rest b.spells u (ends_no_uri (first rest) e)
         (omega arith) in
         cond-true (next_char g == 0x21) _ _ (ap (λ (w : List ℕ). first w == 0x21) t)

@@ -1,4 +1,3 @@
-pub mod CommentCauses
 pub mod Decoded
 pub mod DirectiveLaw
 pub mod Escaped

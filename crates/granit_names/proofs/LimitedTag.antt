@@ -10,6 +10,7 @@ use Rattle.granit_base.specs.Classes.{is_blank, is_blank_or_breakz, is_alpha, is
 use Rattle.granit_base.specs.Place.{Mark, first}
 use Rattle.granit_error.specs.FaultKind.{FaultKind, ExpectedTagDirectiveBang}
 use Rattle.granit_error.specs.FaultKind.{InvalidGlobalTagCharacter, InvalidTagDirectiveTerminator}
+use Rattle.granit_lexemes.proofs.HereLemmas.{stepped_text}
 use Rattle.granit_lexemes.specs.Basics.{count_up_to, text_up_to}
 use Rattle.granit_lexemes.specs.Directive.{blanks_within, handle_by, handle_at, prefix_ends, prefix_at}
 use Rattle.granit_lexemes.specs.Directive.{behind_handle_at, tag_directive}
@@ -33,7 +34,7 @@ use Rattle.granit_names.proofs.Runs.{count_over, text_over, past_run}
 use Rattle.granit_names.proofs.Spelling.{uri_class}
 use Rattle.granit_names.proofs.TagLaw.{no_alpha_nul, no_alpha_bang}
 use Rattle.granit_names.proofs.VersionLaw.{no_blank_nul}
-use Rattle.granit_scalars.proofs.QuotedEscapes.{text_behind, over_text}
+use Rattle.granit_scalars.proofs.QuotedEscapes.{over_text}
 use Rattle.granit_scalars.proofs.Stepping.{over-append}
 
 module _ (start : Mark) (limit : ℕ) where
@@ -93,7 +94,7 @@ module _ (start : Mark) (limit : ℕ) where
       let q = over word (step place) in
       let u : place.unread.text ≡ 0x21 ∷ (word ++ 0x21 ∷ behind) = t
       ∙ ap (λ (k : List ℕ). 0x21 ∷ k) (append_assoc word (0x21 ∷ []) behind) in
-      let v : (step place).unread.text ≡ word ++ 0x21 ∷ behind = text_behind place 0x21 (word ++ 0x21 ∷ behind) u in
+      let v : (step place).unread.text ≡ word ++ 0x21 ∷ behind = stepped_text place 0x21 (word ++ 0x21 ∷ behind) u in
       let e : step q ≡ over (0x21 ∷ (word ++ 0x21 ∷ [])) place = sym (over-append word (0x21 ∷ []) (step place)) in
       let k : count_up_to place (step q) ≡ length (0x21 ∷ (word ++ 0x21 ∷ [])) = ap (count_up_to place) e
       ∙ count_over (0x21 ∷ (word ++ 0x21 ∷ [])) behind place t in
@@ -103,7 +104,7 @@ module _ (start : Mark) (limit : ℕ) where
       ∙ second_over left place q (ap (λ (w : List ℕ). first w == 0x21) (over_text word (0x21 ∷ behind) (step place) v))
       (omega arith)
   handle_over left place handle behind (alone n m) t l =
-      let v : (step place).unread.text ≡ behind = text_behind place 0x21 behind t in
+      let v : (step place).unread.text ≡ behind = stepped_text place 0x21 behind t in
       let k : count_up_to place (step place) ≡ 1 = count_over (0x21 ∷ []) behind place t in
       bang_at start limit left place behind t
       ∙ ap (handle_by (room start limit left) start place)
@@ -113,7 +114,7 @@ module _ (start : Mark) (limit : ℕ) where
   module _ (left : ℕ) (place : Here) (word rest : List ℕ) (t : place.unread.text ≡ 0x21 ∷ (word ++ rest))
       (y : Each is_alpha word) (n : is_alpha (first rest) ≡ false) (m : (first rest == 0x21) ≡ false) where
     word_text : (step place).unread.text ≡ word ++ rest
-    word_text = text_behind place 0x21 (word ++ rest) t
+    word_text = stepped_text place 0x21 (word ++ rest) t
 
     word_by : handle_at (room start limit left) start place
         ≡ handle_by (room start limit left) start place (over word (step place))
@@ -229,7 +230,7 @@ module _ (start : Mark) (limit : ℕ) where
         marked_here = ap (λ (w : List ℕ). first w == 0x21) marked_text
 
         behind_here : (step g).unread.text ≡ more ++ rest
-        behind_here = text_behind g 0x21 (more ++ rest) marked_text
+        behind_here = stepped_text g 0x21 (more ++ rest) marked_text
 
         marked_long : length spelled ≡ suc (length more)
         marked_long = ap (length {A = ℕ}) is

@@ -10,6 +10,7 @@ use Rattle.granit_base.specs.Place.{Mark, first}
 use Rattle.granit_error.specs.FaultKind.{FaultKind, CommentNotSeparated, DirectiveDisallowed}
 use Rattle.granit_error.specs.FaultKind.{InvalidDirectiveTerminator}
 use Rattle.granit_error.specs.OptionsData.{OptionsData}
+use Rattle.granit_lexemes.proofs.CharTests.{blank_no_hash}
 use Rattle.granit_lexemes.specs.Basics.{fails_at}
 use Rattle.granit_lexemes.specs.Comment.{CommentRead, comment, StandsComment, ReadsComment}
 use Rattle.granit_lexemes.specs.Directive.{DirectiveRead, is_reserved, directive_at, directive_tail, directive_read}
@@ -25,18 +26,14 @@ use Rattle.granit_lexemes.specs.PlainExtent.{over, starts_comment}
 use Rattle.granit_lexemes.specs.Source.{Source}
 use Rattle.granit_lexemes.specs.Tail.{tail_behind}
 use Rattle.granit_lexemes.proofs.HereLemmas.{not_empty}
-use Rattle.granit_scalars.proofs.Comments.{steps_text, comment_reads, comment_answered}
+use Rattle.granit_scalars.proofs.Comments.{steps_text, comment_reads, comment_answered, with_note}
 use Rattle.granit_scalars.proofs.Nameless.{IsNameless, comment_none}
 use Rattle.granit_scalars.proofs.QuotedEscapes.{over_text}
 use Rattle.granit_lexemes.specs.DirectiveCause.{DirectiveCause}
-use Rattle.granit_names.proofs.CommentCauses.{comment_spoiled}
+use Rattle.granit_scalars.proofs.CommentCauses.{comment_spoiled}
 use Rattle.granit_names.proofs.Runs.{count_over}
 use Rattle.granit_names.proofs.VersionLaw.{no_blank_nul, all_over, all_past}
 use Rattle.granit_names.proofs.DirectiveLaw.{DirectiveAnswered, directive_answered, directive_is}
-
--- a comment, where one is asked for
-abbrev pub with_note : Result (CommentRead × Here) Fault → Result (Option CommentRead × Here) Fault
-with_note r = r >>= λ x. Ok (Some x.0, x.1)
 
 -- what the function gives behind some blanks
 abbrev pub given_tail : (reserved : Bool) (blanks : List ℕ) → Here → Result (Option CommentRead × Here) Fault
@@ -50,10 +47,6 @@ blank_tail end n g =
     if not (next_char g == 0x23) then Ok (None, g)
     else if n == 0 then fails_at CommentNotSeparated (mark_of g)
     else with_note (comment g)
-
-blank_no_hash : (b : ℕ) → is_blank b ≡ true → (b == 0x23) ≡ false
-unfolding is_blank
-blank_no_hash b y = grind (arith, nat_tests)
 
 none_before : (reserved hash : Bool) (r s : Result (Option CommentRead × Here) Fault) (end : Here)
     → (if reserved && hash then r else if not hash then Ok (None, end) else s)

@@ -11,9 +11,8 @@ use Rattle.granit_lexemes.specs.Here.{Here, next_char, mark_of, step}
 use Rattle.granit_lexemes.specs.Outcome.{Fault}
 use Rattle.granit_lexemes.specs.PlainExtent.{over}
 use Rattle.granit_lexemes.specs.Basics.{fails_at, as_spelled}
-use Rattle.granit_lexemes.proofs.HereLemmas.{not_empty}
+use Rattle.granit_lexemes.proofs.HereLemmas.{not_empty, stepped_text}
 use Rattle.granit_scalars.proofs.Comments.{same_run}
-use Rattle.granit_scalars.proofs.QuotedEscapes.{text_behind}
 use Rattle.granit_scalars.proofs.Stepping.{Seen, seen, second_of}
 use Rattle.granit_lexemes.specs.Tags.{name_up_to, name_at}
 use Rattle.granit_lexemes.specs.NameExtent.{is_name_sign, NameStands, AnswersName, RefusesName, nameless}
@@ -88,7 +87,7 @@ name_refused h f sign e = subst (NameAnswered h) e (name_answered h sign)
 pub name_is : (h : Here) (name : Written) (after : Here) → AnswersName h name after → name_at h ≡ Ok (name, after)
 name_is h name after a =
     let s = a.stands in
-    name_run h name.characters a.rest (text_behind h s.sign (name.characters ++ a.rest) s.whole) s.each s.all
+    name_run h name.characters a.rest (stepped_text h s.sign (name.characters ++ a.rest) s.whole) s.each s.all
     ∙ some_name h name.characters s.some
     ∙ ap₂ (λ (t : Written) (g : Here). Ok (t, g)) (sym a.is) (sym a.reached)
 

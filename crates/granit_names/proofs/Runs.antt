@@ -5,8 +5,8 @@ use Rattle.granit_base.specs.Place.{first}
 use Rattle.granit_lexemes.specs.Gap.{Each}
 use Rattle.granit_lexemes.specs.Here.{Here, text_len, step, past}
 use Rattle.granit_lexemes.specs.PlainExtent.{over}
-use Rattle.granit_lexemes.proofs.HereLemmas.{past_goes, past_stops}
-use Rattle.granit_scalars.proofs.QuotedEscapes.{text_behind, over_text}
+use Rattle.granit_lexemes.proofs.HereLemmas.{past_goes, past_stops, stepped_text}
+use Rattle.granit_scalars.proofs.QuotedEscapes.{over_text}
 use Rattle.granit_lexemes.specs.Basics.{count_up_to, text_up_to}
 
 -- the characters in front of a class, all of them, and what stands behind
@@ -38,7 +38,7 @@ pub past_run : (test : ℕ → Bool) → test 0 ≡ false → (front rest : List
 past_run test nul [] rest h e y n = past_stops test h (ap (λ (t : List ℕ). test (first t)) e ∙ n)
 past_run test nul (c ∷ front) rest h e y n =
     sym (past_goes test h nul (ap (λ (t : List ℕ). test (first t)) e ∙ y.0))
-    ∙ past_run test nul front rest (step h) (text_behind h c (front ++ rest) e) y.1 n
+    ∙ past_run test nul front rest (step h) (stepped_text h c (front ++ rest) e) y.1 n
 
 take_front : (f b : List ℕ) → take (length f) (f ++ b) ≡ f
 take_front [] b = refl

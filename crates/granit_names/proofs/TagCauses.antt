@@ -7,6 +7,7 @@ use Rattle.std.proofs.lemmas.Bool.Decides.{nat_tests}
 use Rattle.granit_base.specs.Classes.{is_uri_char, is_tag_char, is_alpha, is_word_char, is_digit}
 use Rattle.granit_base.specs.Place.{Mark, first}
 use Rattle.granit_error.specs.FaultKind.{FaultKind, MissingTagUri, InvalidTagTerminator}
+use Rattle.granit_lexemes.proofs.HereLemmas.{stepped_text}
 use Rattle.granit_lexemes.specs.Basics.{text_up_to}
 use Rattle.granit_lexemes.specs.Gap.{Each}
 use Rattle.granit_lexemes.specs.Here.{Here, next_char, mark_of, step}
@@ -26,7 +27,7 @@ use Rattle.granit_names.proofs.TagLaw.{no_alpha_nul, no_alpha_bang, no_uri_close
 use Rattle.granit_names.proofs.TagLaw.{spells_nothing, some_is}
 use Rattle.granit_names.proofs.TagOnce.{by_word, alpha_no_angle, word_front}
 use Rattle.granit_names.proofs.WrongBytes.{wrong_is}
-use Rattle.granit_scalars.proofs.QuotedEscapes.{text_behind, over_text}
+use Rattle.granit_scalars.proofs.QuotedEscapes.{over_text}
 
 -- a tag that may not end is refused
 end_fails : (in_flow : Bool) (start : Mark) (kind : TagRead) (g : Here) → ends_tag in_flow (next_char g) ≡ false
@@ -89,7 +90,7 @@ module _ (in_flow : Bool) (h : Here) where
   named_text : (word rest : List ℕ) → h.unread.text ≡ 0x21 ∷ (word ++ 0x21 ∷ rest)
       → (step (over word (step h))).unread.text ≡ rest
   named_text word rest t =
-      text_behind (over word (step h)) 0x21 rest (over_text (0x21 ∷ word) (0x21 ∷ rest) h t)
+      stepped_text (over word (step h)) 0x21 rest (over_text (0x21 ∷ word) (0x21 ∷ rest) h t)
 
   named_read : (word source text rest : List ℕ) → Each is_alpha word → SpellsText is_tag_char source text
       → h.unread.text ≡ 0x21 ∷ (word ++ 0x21 ∷ (source ++ rest)) → is_tag_char (first rest) ≡ false
@@ -221,7 +222,7 @@ module _ (in_flow : Bool) (h : Here) where
       ∙ cond-false (length text == 0) _ _ (some_text uri text front.spells some)
       ∙ cond-false (not (next_char g == 0x3E)) _ _ (ap (λ (l : List ℕ). not (first l == 0x3E)) close)
       ∙ end_fails in_flow (mark_of h) (tag_of [] text) (step g)
-      (ap (λ (l : List ℕ). ends_tag in_flow (first l)) (text_behind g 0x3E rest close) ∙ n)
+      (ap (λ (l : List ℕ). ends_tag in_flow (first l)) (stepped_text g 0x3E rest close) ∙ n)
   refused (behind_named {source = source} {text = text} {rest = rest} word y front some n m) =
       let whole = front_named word (source ++ rest) front.whole in
       let g = step (over word (step h)) in

@@ -3,8 +3,9 @@ use Rattle.std.proofs.Common.{◌≡◌, ◌≢◌, ℕ, ◌<◌, ◌≤◌, ◌
 use Rattle.std.proofs.Common.{length, None, Result, Ok, Err, refl, sym, ap, ◌∙◌, subst, arith, append_assoc}
 use Rattle.std.specs.Prelude.{slice_index, if◌then◌else◌}
 use Rattle.std.specs.Str.{encode_utf8_all}
-use Rattle.std.proofs.lemmas.Bool.{and_parts}
+use Rattle.std.proofs.lemmas.Bool.{and_parts, eqb-true}
 use Rattle.std.proofs.lemmas.Bool.Decides.{nat_tests}
+use Rattle.std.proofs.lemmas.List.{nil_from_length}
 use Rattle.std.proofs.lemmas.Str.{cons_from_encodes}
 use lib.Utf8.{scalars}
 use Rattle.granit_base.specs.Classes.{is_digit, is_word_char, is_uri_sign, is_uri_char, is_flow, is_tag_char, is_alpha}
@@ -17,8 +18,8 @@ use Rattle.granit_lexemes.specs.Moves.{steps}
 use Rattle.granit_lexemes.specs.Outcome.{Fault, ◌>>=◌}
 use Rattle.granit_lexemes.specs.PlainExtent.{over}
 use Rattle.granit_lexemes.specs.Basics.{fails_at}
-use Rattle.granit_lexemes.proofs.HereLemmas.{not_empty}
-use Rattle.granit_scalars.proofs.QuotedEscapes.{text_behind, over_text}
+use Rattle.granit_lexemes.proofs.HereLemmas.{not_empty, stepped_text}
+use Rattle.granit_scalars.proofs.QuotedEscapes.{over_text}
 use Rattle.granit_scalars.proofs.Stepping.{seen, over-append, second_of}
 use Rattle.granit_lexemes.specs.Basics.{text_up_to}
 use Rattle.granit_lexemes.specs.Tags.{TagRead, tag_of, UriState, decoded, tag_ends, behind_verbatim, behind_handle}
@@ -132,10 +133,6 @@ none_spelled source (c ∷ text) row e f s (percent y z p) = cc
 pub no_value : {test : ℕ → Bool} (source text : List ℕ) → SpellsText test source text → source ≡ [] → text ≡ []
 no_value source text s e = none_spelled source text s.bytes e s.encodes s.scalar s.spells
 
-empty_is : (l : List ℕ) → (length l == 0) ≡ true → l ≡ []
-empty_is [] e = refl
-empty_is (c ∷ l) e = absurd (let n = not_empty c l in cc)
-
 pub some_is : (l : List ℕ) → l ≢ [] → (length l == 0) ≡ false
 some_is [] n = absurd (n refl)
 some_is (c ∷ l) n = not_empty c l
@@ -218,7 +215,7 @@ module _ (in_flow : Bool) (h : Here) where
         then fails_at UnclosedVerbatimTag (mark_of h) else tag_ends in_flow (mark_of h) (tag_of [] suffix)
         (step behind_uri))
     nothing_if true e =
-        let none = spells_nothing uri suffix s (empty_is suffix e) in
+        let none = spells_nothing uri suffix s (nil_from_length suffix (eqb-true (length suffix) 0 e)) in
         let f : h.unread.text ≡ opening ++ (step (step h)).unread.text = whole in (
           has_nothing (record { whole = f; opens = opens_verbatim; spells = empty_spells is_uri_char }) (λ z. cc)
               (ap (λ (l : List ℕ). is_uri_char (next_char (over l (step (step h))))) (sym none) ∙ n),
@@ -306,7 +303,7 @@ module _ (in_flow : Bool) (h : Here) where
             → TagAnswered in_flow h (if v then fails_at MissingTagUri (mark_of h) else tag_ends in_flow (mark_of h)
             (tag_of handle suffix) (over source (step behind_word)))
         suffix_if true e =
-            let none = spells_nothing source suffix s (empty_is suffix e) in (
+            let none = spells_nothing source suffix s (nil_from_length suffix (eqb-true (length suffix) 0 e)) in (
               has_nothing (record {
                 whole = behind_handle_is;
                 opens = opens_named word y;
@@ -346,7 +343,7 @@ module _ (in_flow : Bool) (h : Here) where
         (angle : (slice_index h.unread.text 1 == 0x3C) ≡ false) where
       word_is : text_up_to (step h) behind_word ≡ word
       word_is = text_over word behind_word.unread.text (step h)
-          (text_behind h 0x21 (word ++ behind_word.unread.text) whole)
+          (stepped_text h 0x21 (word ++ behind_word.unread.text) whole)
 
       short_front : (source text rest : List ℕ) → SpellsText is_tag_char source text
           → behind_word.unread.text ≡ source ++ rest

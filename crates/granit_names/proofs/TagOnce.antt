@@ -9,12 +9,13 @@ use Rattle.std.proofs.lemmas.Str.{encode_ascii, cons_from_encodes}
 use lib.Utf8.{scalar, scalars}
 use Rattle.granit_base.specs.Classes.{is_uri_char, is_tag_char, is_alpha}
 use Rattle.granit_base.specs.Place.{first}
+use Rattle.granit_lexemes.proofs.HereLemmas.{stepped_text}
 use Rattle.granit_lexemes.specs.Gap.{Each}
 use Rattle.granit_lexemes.specs.Here.{Here, next_char, mark_of, step}
 use Rattle.granit_lexemes.specs.Moves.{steps}
 use Rattle.granit_lexemes.specs.Outcome.{Fault, ◌>>=◌}
 use Rattle.granit_lexemes.specs.PlainExtent.{over}
-use Rattle.granit_scalars.proofs.QuotedEscapes.{text_behind, over_text}
+use Rattle.granit_scalars.proofs.QuotedEscapes.{over_text}
 use Rattle.granit_scalars.proofs.Stepping.{over-append}
 use Rattle.granit_lexemes.specs.Basics.{text_up_to}
 use Rattle.granit_lexemes.specs.Tags.{TagRead, tag_of, tag_ends, behind_verbatim, behind_handle, short_tag, tag_by}
@@ -43,7 +44,7 @@ verbatim_behind in_flow h g suffix rest some t e =
     cond-false (length suffix == 0) _ _ some
     ∙ cond-false (not (next_char g == 0x3E)) _ _ (ap (λ (l : List ℕ). not (first l == 0x3E)) t)
     ∙ end_answers in_flow h (tag_of [] suffix) (step g)
-    (ap (λ (l : List ℕ). ends_tag in_flow (first l)) (text_behind g 0x3E rest t) ∙ e)
+    (ap (λ (l : List ℕ). ends_tag in_flow (first l)) (stepped_text g 0x3E rest t) ∙ e)
 
 verbatim_is : (in_flow : Bool) (h : Here) (uri suffix rest : List ℕ) → uri ≢ [] → SpellsText is_uri_char uri suffix
     → h.unread.text ≡ 0x21 ∷ 0x3C ∷ (uri ++ 0x3E ∷ rest) → ends_tag in_flow (first rest) ≡ true
@@ -68,7 +69,7 @@ pub by_word : (in_flow : Bool) (h : Here) (word rest : List ℕ) → h.unread.te
 unfolding tag_at
 by_word in_flow h word rest t n y m =
     cond-false (slice_index h.unread.text 1 == 0x3C) _ _ (ap (λ (l : List ℕ). slice_index l 1 == 0x3C) t ∙ n)
-    ∙ ap (tag_by in_flow h) (past_run is_alpha no_alpha_nul word rest (step h) (text_behind h 0x21 (word ++ rest) t) y
+    ∙ ap (tag_by in_flow h) (past_run is_alpha no_alpha_nul word rest (step h) (stepped_text h 0x21 (word ++ rest) t) y
     m)
 
 pub alpha_no_angle : (word rest : List ℕ) → Each is_alpha word → (first rest == 0x3C) ≡ false
@@ -83,7 +84,7 @@ named_is : (in_flow : Bool) (h : Here) (word source suffix rest : List ℕ) → 
 named_is in_flow h word source suffix rest y some s t e =
     let w = over word (step h) in
     let behind : w.unread.text ≡ 0x21 ∷ (source ++ rest) = over_text (0x21 ∷ word) (0x21 ∷ (source ++ rest)) h t in
-    let u : (step w).unread.text ≡ source ++ rest = text_behind w 0x21 (source ++ rest) behind in
+    let u : (step w).unread.text ≡ source ++ rest = stepped_text w 0x21 (source ++ rest) behind in
     let handle : text_up_to h (step w) ≡ 0x21 ∷ (word ++ 0x21 ∷ []) =
     ap (text_up_to h) (sym (over-append word (0x21 ∷ []) (step h)))
     ∙ text_over (0x21 ∷ (word ++ 0x21 ∷ [])) (source ++ rest) h
@@ -150,7 +151,7 @@ short_is in_flow h source suffix rest s t e =
     ∙ ap (λ (l : List ℕ). 0x21 ∷ (l ++ rest)) r.whole
     ∙ ap (λ (l : List ℕ). 0x21 ∷ l) (append_assoc r.front r.rest rest) in
     let behind : (step h).unread.text ≡ r.front
-    ++ (r.rest ++ rest) = text_behind h 0x21 (r.front ++ (r.rest ++ rest)) whole in
+    ++ (r.rest ++ rest) = stepped_text h 0x21 (r.front ++ (r.rest ++ rest)) whole in
     let u : w.unread.text ≡ r.rest ++ rest = over_text r.front (r.rest ++ rest) (step h) behind in
     let n : (first (r.front ++ (r.rest ++ rest)) == 0x3C) ≡ false =
     ap (λ (l : List ℕ). first l == 0x3C) (sym (append_assoc r.front r.rest rest)

@@ -1,5 +1,5 @@
 -- `%YAML` and its two numbers: what is read is there, and what is there is read.
-use Rattle.std.proofs.Common.{◌≡◌, ◌≢◌, ℕ, ◌==◌, Bool, true, false, List, [], ◌∷◌, ◌++◌, length, Result, Ok, refl, sym}
+use Rattle.std.proofs.Common.{◌≡◌, ℕ, ◌==◌, Bool, true, false, List, [], ◌∷◌, ◌++◌, length, Result, Ok, refl, sym}
 use Rattle.std.proofs.Common.{ap, ap₂, ◌∙◌, subst, arith}
 use Rattle.std.specs.Prelude.{if◌then◌else◌, nat_lt}
 use Rattle.std.proofs.lemmas.Bool.{cond-true, cond-false}
@@ -11,14 +11,15 @@ use Rattle.granit_lexemes.specs.Here.{Here, next_char, step, past}
 use Rattle.granit_lexemes.specs.Outcome.{Fault, ◌>>=◌}
 use Rattle.granit_lexemes.specs.PlainExtent.{over}
 use Rattle.granit_lexemes.specs.Basics.{fails_at}
-use Rattle.granit_lexemes.proofs.HereLemmas.{not_empty}
-use Rattle.granit_scalars.proofs.QuotedEscapes.{text_behind, over_text}
+use Rattle.granit_lexemes.proofs.HereLemmas.{not_empty, stepped_text}
+use Rattle.granit_scalars.proofs.QuotedEscapes.{over_text}
 use Rattle.granit_scalars.proofs.Stepping.{seen, over-append}
 use Rattle.granit_lexemes.specs.Directive.{digits_value, number_up_to, version_number, minor_number, version_directive}
 use Rattle.granit_lexemes.specs.Lexeme.{DirectiveKind, Version}
 use Rattle.granit_lexemes.specs.DirectiveExtent.{All, NumberStands, VersionStands, WrongNumber, missing, too_long}
 use Rattle.granit_lexemes.specs.DirectiveExtent.{WrongVersion, first_wrong, no_point, second_wrong}
 use Rattle.granit_names.proofs.Runs.{run_of, past_run, count_over, text_over}
+use Rattle.granit_names.proofs.TagLaw.{some_is}
 
 no_digit_nul : is_digit 0 ≡ false
 unfolding is_digit
@@ -88,16 +89,12 @@ number start g =
     subst (NumberRead start g) (sym (number_run start g r.0 (over r.0 g).unread.text r.1))
     (number_if start g r.0 r.1 (length r.0 == 0) (nat_lt 9 (length r.0)) refl refl)
 
-pub some_digits : (digits : List ℕ) → digits ≢ [] → (length digits == 0) ≡ false
-some_digits [] n = absurd (n refl)
-some_digits (d ∷ digits) n = not_empty d digits
-
 pub number_is : (start : Mark) (g : Here) (digits rest : List ℕ) (n : ℕ) → NumberStands g.unread.text digits rest n
     → version_number start g ≡ Ok (n, over digits g)
 number_is start g digits rest n s =
     let few = s.few in
     number_run start g digits rest s.is
-    ∙ cond-false (length digits == 0) _ _ (some_digits digits s.some)
+    ∙ cond-false (length digits == 0) _ _ (some_is digits s.some)
     ∙ cond-false (nat_lt 9 (length digits)) _ _ (grind (arith, nat_tests))
     ∙ ap (λ m. Ok (m, over digits g)) (sym s.value)
 
@@ -180,7 +177,7 @@ version_is start g source major minor s =
     subst (λ (l : List ℕ). NumberStands l s.first_digits (0x2E ∷ s.fraction) major) (sym t) s.first_number in
     let p = over s.first_digits b in
     let u : p.unread.text ≡ 0x2E ∷ s.fraction = over_text s.first_digits (0x2E ∷ s.fraction) b f.is.whole in
-    let v : (step p).unread.text ≡ s.fraction = text_behind p 0x2E s.fraction u in
+    let v : (step p).unread.text ≡ s.fraction = stepped_text p 0x2E s.fraction u in
     ap (λ (i : Here). version_number start i >>= λ major. minor_number start major.1 >>= λ minor. Ok
     (Version major.0 minor.0, minor.1)) (all_past is_blank no_blank_nul g s.blanks s.behind s.parts)
     ∙ ap (λ r. r >>= λ major. minor_number start major.1 >>= λ minor. Ok (Version major.0 minor.0, minor.1))

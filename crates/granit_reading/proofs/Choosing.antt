@@ -1,6 +1,7 @@
 -- Flags from the right are the possible keys from the left that get their `:`.
 use Rattle.std.proofs.Common.{◌≡◌, ℕ, suc, ◌<◌, ◌==◌, Bool, true, false, List, [], ◌∷◌, Option, Some, None, refl, sym}
 use Rattle.std.proofs.Common.{ap, ◌∙◌, subst, arith}
+use Rattle.std.proofs.lemmas.Bool.{eq-eqb}
 use Rattle.std.proofs.lemmas.Bool.Decides.{nat_tests}
 use Rattle.granit_machine.specs.Lexing.{is_nearest, others}
 use Rattle.granit_language.specs.Fitting.{Role, OfNode, Opens, Closes, Keyed, Other, outer_keys, keys_behind, role_fits}
@@ -156,9 +157,6 @@ pub record Stepped (role : Role) (new : Bool) (n : ℕ) (hs ks : Held) (ns : Lis
   pub fits : role_fits role before ≡ true
   pub next : keys_behind role flag n before ≡ ks
 
-same_number : (n : ℕ) → (n == n) ≡ true
-same_number n = grind (arith, nat_tests)
-
 nearest : (n k m : ℕ) → ◌≡◌ {A = Option ℕ} (Some n) (Some k) → k ≡ m → (m == n) ≡ true
 nearest n k m e f = let g : n ≡ k = cc in grind (arith, nat_tests, g, f)
 
@@ -242,7 +240,7 @@ keyed m new n hs [] ns b q = absurd q
 keyed m new n hs (Some k ∷ ks) [] b q = absurd q
 keyed m new n hs (Some k ∷ ks) (x ∷ ns) b q = absurd (let e = q.0 in cc)
 keyed m new n hs (None ∷ ks) ns b q = kept (Keyed m) new n (Some m ∷ hs) (None ∷ hs) (Some m ∷ ks) (None ∷ ks) ns b q
-    (refl, refl, q) (same_number m) refl
+    (refl, refl, q) (eq-eqb m m refl) refl
 
 stepped_on : (role : Role) (new : Bool) (n : ℕ) (h : Option ℕ) (hs gs ks : Held) (ns : List ℕ) → Below n (h ∷ hs)
     → Moves role new n (h ∷ hs) gs → Chosen gs ks ns → Stepped role new n (h ∷ hs) ks ns

@@ -57,15 +57,15 @@ pushed c (x ∷ xs) = on (x.column == c)
 
 -- ---- lists that fall
 
-under : (a n c : ℕ) → nat_lt a n ≡ false → nat_lt n c ≡ false → nat_lt a c ≡ false
+pub under : (a n c : ℕ) → nat_lt a n ≡ false → nat_lt n c ≡ false → nat_lt a c ≡ false
 under a n c p q = grind (arith, nat_tests, p, q)
 
-at_most_has : (a c : ℕ) (ns : List ℕ) → AtMost a ns → Has c ns → nat_lt a c ≡ false
+pub at_most_has : (a c : ℕ) (ns : List ℕ) → AtMost a ns → Has c ns → nat_lt a c ≡ false
 at_most_has a c [] p h = absurd h
 at_most_has a c (n ∷ ns) p (inl e) = subst (λ c. nat_lt a c ≡ false) e p.0
 at_most_has a c (n ∷ ns) p (inr h) = at_most_has a c ns p.1 h
 
-at_most_more : (a n : ℕ) (ns : List ℕ) → nat_lt a n ≡ false → AtMost n ns → AtMost a ns
+pub at_most_more : (a n : ℕ) (ns : List ℕ) → nat_lt a n ≡ false → AtMost n ns → AtMost a ns
 at_most_more a n [] e p = tt
 at_most_more a n (m ∷ ns) e p = (under a n m e p.0, at_most_more a n ns e p.1)
 

@@ -20,15 +20,21 @@ use Rattle.granit_machine.specs.LexemeSort.{NoSign, PlainSign, LexemeSort, TextE
 use Rattle.granit_machine.specs.LexemeSort.{DirectiveSign, Placed}
 use Rattle.granit_machine.specs.PossibleKeys.{key_in, top_key, outer_key, is_allowed, new_key, key_goes_on, node_key}
 use Rattle.granit_machine.specs.Reader.{noded}
-use Rattle.granit_language.specs.Before.{closed_for, run_for, behind_colon, behind_question_sign, behind}
+use Rattle.granit_language.specs.Before.{closed_for, run_for, behind_colon, behind_question_sign, behind, in_front}
 use Rattle.granit_language.specs.OpenColumns.{EntryOf, is_outer_kind, columns_of}
 use Rattle.granit_language.specs.Standing.{key_start, ClosesInnermost}
 use Rattle.granit_reading.proofs.ColumnsKept.{all_widened, pop, popped, push, pushed, SameKey, NewKey, Change, nothing}
 use Rattle.granit_reading.proofs.ColumnsKept.{all_end, passes, own, keyed}
 use Rattle.granit_reading.proofs.ReadingLaw.{run_flow}
 use Rattle.granit_reading.proofs.Telling.{Told, Unkeyed, SaysOf, Agrees}
+use Rattle.std.proofs.Common.{◌<◌, ◌==◌, arith}
+use Rattle.std.specs.Prelude.{nat_lt}
+use Rattle.std.proofs.lemmas.Bool.Decides.{nat_tests}
 
-abbrev cols : List OpenColumn → List ℕ
+pub is_below : (n c : ℕ) → (n == c) ≡ false → nat_lt c n ≡ false → n < c
+is_below n c e f = grind (arith, nat_tests, e, f)
+
+abbrev pub cols : List OpenColumn → List ℕ
 cols cs = map (λ (x : OpenColumn). x.column) cs
 
 pub same_self : (key : Option PossibleKey) → SameKey key key
@@ -95,7 +101,7 @@ module _ (l : Laid) (b : OpenBracket) (bs : List OpenBracket) (e : l.brackets �
 
 -- ---- outside flow
 
-entered_columns : (column : ℕ) (l : Laid) → columns_of (entered column l) ≡ push column (columns_of l)
+pub entered_columns : (column : ℕ) (l : Laid) → columns_of (entered column l) ≡ push column (columns_of l)
 unfolding Rattle.granit_machine.specs.Columns.entered_columns
 entered_columns column l = ap (λ (ns : List ℕ). column ∷ ns) (pushed column l.columns)
 
@@ -230,11 +236,12 @@ module _ (h : Here) (l m : Laid) (x : Lexeme) (after : Laid) (shut : m.brackets 
 
 -- ---- one lexeme
 
-shut_of : (bs : List OpenBracket) → is_nonempty bs ≡ false → bs ≡ []
+pub shut_of : (bs : List OpenBracket) → is_nonempty bs ≡ false → bs ≡ []
 shut_of [] e = refl
 shut_of (b ∷ bs) e = absurd cc
 
-some_of : (bs : List OpenBracket) → is_nonempty bs ≡ true → (b : OpenBracket) × (cs : List OpenBracket) × (bs ≡ b ∷ cs)
+pub some_of : (bs : List OpenBracket) → is_nonempty bs ≡ true
+    → (b : OpenBracket) × (cs : List OpenBracket) × (bs ≡ b ∷ cs)
 some_of [] e = absurd cc
 some_of (b ∷ bs) e = (b, bs, refl)
 
@@ -272,13 +279,13 @@ at_columns : (h : Here) (l : Laid) → is_in_flow l ≡ false
 at_columns h l e = ap (λ v. cols (if v then l.columns else up_to_column h.place.column l.columns)) e
     ∙ popped h.place.column l.columns
 
-run_in_flow : (sort : LexemeSort) (h : Here) (l : Laid) → is_in_flow (run_for sort h l) ≡ is_in_flow l
+pub run_in_flow : (sort : LexemeSort) (h : Here) (l : Laid) → is_in_flow (run_for sort h l) ≡ is_in_flow l
 run_in_flow (Placed sort) h l = run_flow sort h l
 run_in_flow sort h l = refl
 
-front_flow : (sort : LexemeSort) (h : Here) (l : Laid)
-    → is_in_flow (run_for sort h (closed_for sort h l)) ≡ is_in_flow l
-front_flow sort h l = run_in_flow sort h (closed_for sort h l)
+pub front_flow : (sort : LexemeSort) (h : Here) (l : Laid) → is_in_flow (in_front sort h l) ≡ is_in_flow l
+front_flow sort h l =
+    run_in_flow sort h (closed_for sort h l)
     ∙ ap (λ (bs : List OpenBracket). is_nonempty bs) (closed_brackets sort h l)
 
 out_change : (o : OptionsData) (sort : LexemeSort) (h : Here) (l : Laid) (x : Lexeme) (cut : Option Mark) (g : Here)

@@ -14,7 +14,7 @@ use Rattle.granit_lexemes.specs.Here.{Here, begins_behind, tab_behind, step, mid
 use Rattle.granit_lexemes.specs.Moves.{steps, past_prefix_mark}
 use Rattle.granit_lexemes.specs.PlainExtent.{over}
 use Rattle.granit_lexemes.specs.Place.{one_more_if, line_ends, if_none, if_ends, since_line_end}
-use Rattle.granit_lexemes.proofs.HereLemmas.{not_empty}
+use Rattle.granit_lexemes.proofs.HereLemmas.{not_empty, stays_at_end}
 use Rattle.granit_language.specs.Counting.{count_within, marks_on_line, CountedMark, AllBelow, CountedHere, MarksStand}
 use Rattle.granit_language.specs.Stretch.{GapTo, ends, white, prefix_mark}
 
@@ -190,15 +190,6 @@ stepped_on x ms i c t h e p =
       below = below_on i ms p.below;
     }
 
-at_end : (h : Here) → h.unread.text ≡ [] → step h ≡ h
-unfolding step
-at_end h e = ap (λ b. if b then h else record {
-  unread = past_first h.unread;
-  place = place_after h.unread.text h.place;
-  begins_line = begins_behind h;
-  tab = tab_behind h;
-}) (ap (λ (l : List ℕ). length l == 0) e)
-
 -- over a byte-order mark in front of a document
 since_bom : (x : List ℕ) (i : ℕ) (t : List ℕ) → drop i x ≡ 0xFEFF ∷ t
     → since_line_end x (suc i) ≡ suc (since_line_end x i)
@@ -366,7 +357,7 @@ module _ (x : List ℕ) where
   move_as {h = h} e f = subst (MovesTo x h) (sym e) f
 
   step_on : (h : Here) (t : List ℕ) → h.unread.text ≡ t → MovesTo x h (step h)
-  step_on h [] e = move_as (at_end h e) (stay h)
+  step_on h [] e = move_as (stays_at_end h e) (stay h)
   step_on h (k ∷ t) e = λ a. record {
     place =
         record {

@@ -386,7 +386,7 @@ tab_told h tab e = on h.begins_line (is_breakz (next_char h)) refl refl e
 pub tab_leads : (h : Here) (tab : Mark) → TabBegins h tab → leading_tab h ≡ Some tab
 tab_leads h tab ((p, q), e) = rw (p, q) e
 
-question_decided : (last : LastLexeme) → Decides (is_question last) (IsBehindQuestion last)
+pub question_decided : (last : LastLexeme) → Decides (is_question last) (IsBehindQuestion last)
 question_decided BehindQuestion = (λ e. inl refl, λ p. refl)
 question_decided BehindProperty = (λ e. inr refl, λ p. refl)
 question_decided Opener = (λ e. absurd cc, λ p. elim p [ inl q ↦ absurd cc | inr q ↦ absurd cc ])

@@ -3,7 +3,7 @@ use Rattle.std.proofs.Common.{◌≡◌, ℕ, ◌≤◌, ◌==◌, ◌&&◌, Boo
 use Rattle.std.proofs.Common.{refl, sym, ap, ap₂, ◌∙◌, arith}
 use Rattle.std.specs.Prelude.{nat_lt}
 use Rattle.std.specs.Bool.{Decides}
-use Rattle.std.proofs.lemmas.Bool.{cond-true, cond-false}
+use Rattle.std.proofs.lemmas.Bool.{cond-true, cond-false, or_left, or_right}
 use Rattle.std.proofs.lemmas.Bool.Decides.{nat_tests}
 use Rattle.granit_base.specs.Classes.{is_gap, is_blank, is_break, is_bom}
 use Rattle.granit_base.specs.Place.{Mark, first}
@@ -15,6 +15,8 @@ use Rattle.granit_lexemes.specs.Moves.{past_prefix_mark}
 use Rattle.granit_lexemes.specs.Outcome.{◌>>=◌}
 use Rattle.granit_lexemes.proofs.HereLemmas.{past_goes, past_stops}
 use Rattle.granit_scalars.proofs.Comments.{comment_answered}
+use Rattle.granit_machine.proofs.LengthLemmas.{step-less}
+use Rattle.granit_machine.proofs.ReadLengths.{past_prefix_mark-less}
 use Rattle.granit_machine.specs.Gaps.{leading_tab, refuse_tab_at, refuse_tab, at_prefix_mark, begins_gap, over_gap_char}
 use Rattle.granit_machine.specs.Gaps.{skip_gap, past_gap, goes_on_behind, refuse_cut_by, over_break_if, behind_note}
 use Rattle.granit_machine.specs.Gaps.{behind_gap, noted_gap, ready_gap, gap_ends, takes_prefix, gap}
@@ -25,7 +27,7 @@ use Rattle.granit_language.specs.Standing.{GapStands, in_front_of_comment, in_fr
 use Rattle.granit_language.specs.Stretch.{GapTo, ends, white, prefix_mark, GapHere}
 use Rattle.granit_reading.proofs.Deciding.{asserts, rejects, goes_decided, tab_told, key_tab_decided, tab_limit}
 use Rattle.granit_reading.proofs.Deciding.{block_tab_decided, prefix_decided}
-use Rattle.granit_reading.proofs.Gapping.{prefix_mark-less, step-less, any_of, second_of, mark_decided, stops_tells}
+use Rattle.granit_reading.proofs.Gapping.{mark_decided, stops_tells}
 
 pub hash_is : {h end : Here} {c : CommentRead} → StandsComment h c end → (next_char h == 0x23) ≡ true
 hash_is p = ap (λ (t : List ℕ). first t == 0x23) p.spelled.spelled
@@ -46,7 +48,7 @@ module _ {May : Type 0} (may : Bool) (d : Decides may May) where
       → (begins_gap may h ≡ true) × (over_gap_char may h ≡ step h)
   white_over h c rest e w =
       let g : is_gap (next_char h) ≡ true = ap (λ (t : List ℕ). is_gap (first t)) e ∙ w in (
-        any_of (is_gap (next_char h)) (at_prefix_mark may h) g,
+        or_left (is_gap (next_char h)) (at_prefix_mark may h) g,
         cond-false (at_prefix_mark may h) _ _
             (no_mark may (is_bom (next_char h)) (h.place.column == 0) (gap_no_bom (next_char h) g)),
       )
@@ -55,7 +57,7 @@ module _ {May : Type 0} (may : Bool) (d : Decides may May) where
       → (begins_gap may h ≡ true) × (over_gap_char may h ≡ past_prefix_mark h)
   mark_over h rest m z e =
       let p : at_prefix_mark may h ≡ true = asserts (mark_decided may h d) ((m, ap (λ (t : List ℕ). first t) e), z) in
-      (second_of (is_gap (next_char h)) (at_prefix_mark may h) p, cond-true (at_prefix_mark may h) _ _ p)
+      (or_right (is_gap (next_char h)) (at_prefix_mark may h) p, cond-true (at_prefix_mark may h) _ _ p)
 
   skipped : (xs : List ℕ) (h at : Here) {cs : List ℕ} → text_len h ≤ length xs → GapTo May h cs at
       → begins_gap may at ≡ false → skip_gap may xs h ≡ at
@@ -69,7 +71,7 @@ module _ {May : Type 0} (may : Bool) (d : Decides may May) where
   skipped (x ∷ xs) h at p (prefix_mark {rest = rest} m z e g) stop =
       let o = mark_over h rest m z e in
       ap₂ (λ v k. chosen v (skip_gap may xs k) h) o.0 o.1
-      ∙ skipped xs (past_prefix_mark h) at (prefix_mark-less (length xs) h p) g stop
+      ∙ skipped xs (past_prefix_mark h) at (past_prefix_mark-less (length xs) h p) g stop
 
   moved_by : (h at : Here) {cs : List ℕ} → GapTo May h cs at → begins_gap may at ≡ false
       → begins_gap may h ≡ is_nonempty cs

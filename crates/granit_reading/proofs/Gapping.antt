@@ -2,10 +2,9 @@
 use Rattle.std.proofs.Common.{◌≡◌, ℕ, suc, ◌≤◌, ◌==◌, ◌&&◌, ◌||◌, not, Bool, true, false, List, [], ◌∷◌, ◌++◌, length}
 use Rattle.std.proofs.Common.{drop, Option, Some, None, Result, Ok, Err, refl, sym, ap, ◌∙◌, subst, arith}
 use Rattle.std.specs.Bool.{Decides}
-use Rattle.std.proofs.lemmas.Bool.{and_parts, or_parts}
+use Rattle.std.proofs.lemmas.Bool.{and_parts, or_parts, or_left, or_right}
 use Rattle.std.specs.Prelude.{if◌then◌else◌, nat_lt}
 use Rattle.std.proofs.lemmas.Bool.Decides.{nat_tests, Decides-and}
-use Rattle.std.proofs.lemmas.List.{length-drop}
 use Rattle.granit_base.specs.Classes.{is_gap, is_blank, is_break, is_bom}
 use Rattle.granit_base.specs.Place.{Mark, first, ends_line}
 use Rattle.granit_error.specs.FaultKind.{FaultKind, TabNotAllowed, TabInBlockIndentation, CommentInterceptedScalar}
@@ -19,12 +18,13 @@ use Rattle.granit_lexemes.specs.Moves.{past_prefix_mark}
 use Rattle.granit_lexemes.specs.Outcome.{Fault, ◌>>=◌}
 use Rattle.granit_lexemes.specs.PlainExtent.{over}
 use Rattle.granit_lexemes.specs.Tail.{tail_at}
-use Rattle.granit_lexemes.proofs.HereLemmas.{step_len}
+use Rattle.granit_lexemes.proofs.HereLemmas.{stepped_text}
 use Rattle.granit_lexemes.specs.Gap.{Each}
 use Rattle.granit_scalars.proofs.Comments.{comment_reads}
-use Rattle.granit_scalars.proofs.QuotedEscapes.{text_behind}
 use Rattle.granit_blocks.proofs.BlockHeads.{TailWrong, touches, spoils, TailReads, tail_reads}
 use Rattle.granit_blocks.proofs.Moving.{past_reads}
+use Rattle.granit_machine.proofs.LengthLemmas.{step-less}
+use Rattle.granit_machine.proofs.ReadLengths.{past_prefix_mark-less}
 use Rattle.granit_machine.specs.Gaps.{leading_tab, refuse_tab_at, refuse_tab, at_prefix_mark, begins_gap, skip_gap}
 use Rattle.granit_machine.specs.Gaps.{past_gap, goes_on_behind, refuse_cut_by, noted_gap, ready_gap, gap_ends}
 use Rattle.granit_machine.specs.Gaps.{takes_prefix, gap}
@@ -94,22 +94,6 @@ bom_there : is_bom 0xFEFF ≡ true
 unfolding is_bom
 bom_there = refl
 
-pub prefix_mark-less : (n : ℕ) (h : Here) → text_len h ≤ suc n → text_len (past_prefix_mark h) ≤ n
-unfolding past_prefix_mark
-prefix_mark-less n h p = let m = length-drop 1 h.unread.text in omega (arith, m, p)
-
-pub step-less : (n : ℕ) (h : Here) → text_len h ≤ suc n → text_len (step h) ≤ n
-step-less n h p = let m = step_len h in omega (arith, m, p)
-
-pub any_of : (a b : Bool) → a ≡ true → (a || b) ≡ true
-any_of true b e = refl
-any_of false b e = absurd cc
-
-pub second_of : (a b : Bool) → b ≡ true → (a || b) ≡ true
-second_of true b e = refl
-second_of false true e = refl
-second_of false false e = absurd cc
-
 pub mark_decided : {May : Type 0} (may : Bool) (h : Here) → Decides may May
     → Decides (at_prefix_mark may h) ((May × (next_char h ≡ 0xFEFF)) × (h.place.column ≡ 0))
 unfolding is_bom
@@ -146,11 +130,11 @@ module _ {May : Type 0} (may : Bool) (d : Decides may May) where
       let p = (mark_decided may h d).0 f in
       let t : h.unread.text ≡ 0xFEFF ∷ drop 1 h.unread.text = text_as is_bom h.unread.text is_bom_nul
       (ap is_bom p.0.1 ∙ bom_there) ∙ ap (λ (n : ℕ). n ∷ drop 1 h.unread.text) p.0.1 in
-      let r = (more (past_prefix_mark h) (prefix_mark-less (length xs) h less)).here in
+      let r = (more (past_prefix_mark h) (past_prefix_mark-less (length xs) h less)).here in
       record {
         here = record { gap = 0xFEFF ∷ r.gap; over = prefix_mark p.0.0 p.1 t r.over; stops = r.stops };
         moved =
-            second_of (is_gap (next_char h)) (at_prefix_mark may h) f;
+            or_right (is_gap (next_char h)) (at_prefix_mark may h) f;
       }
 
   skip_on : (xs : List ℕ) (h : Here) → ((g : Here) → text_len g ≤ length xs → Skips May may g (skip_gap may xs g))
@@ -167,7 +151,7 @@ module _ {May : Type 0} (may : Bool) (d : Decides may May) where
           over = white (text_as is_gap h.unread.text is_gap_nul e) e r.over;
           stops = r.stops;
         };
-        moved = any_of
+        moved = or_left
             (is_gap (next_char h)) (at_prefix_mark may h) e;
       }
   skip_on xs h more less false false e f = let n : begins_gap may h
@@ -211,15 +195,11 @@ past_white h = let p = past_reads is_gap is_gap_nul
     on : (cs : List ℕ) (g at : Here) (rest : List ℕ) → g.unread.text ≡ cs ++ rest → at ≡ over cs g → Each is_gap cs
         → GapTo ⊥ g cs at
     on [] g at rest t l e = subst (GapTo ⊥ g []) (sym l) ends
-    on (c ∷ cs) g at rest t l e = white t e.0 (on cs (step g) at rest (text_behind g c (cs ++ rest) t) l e.1)
+    on (c ∷ cs) g at rest t l e = white t e.0 (on cs (step g) at rest (stepped_text g c (cs ++ rest) t) l e.1)
 
 pub gap_break : (c : ℕ) → is_gap c ≡ true → is_quiet c ≡ false → is_break c ≡ true
 unfolding is_gap is_blank is_break
 gap_break c g q = grind (arith, nat_tests, g, q)
-
-pub break_gap : (c : ℕ) → is_break c ≡ true → is_gap c ≡ true
-unfolding is_gap
-break_gap c e = second_of (is_blank c) (is_break c) e
 
 pub line_feed : (c d : ℕ) → (c == 0x0D && d == 0x0A) ≡ true → is_break d ≡ true
 unfolding is_break
@@ -237,7 +217,7 @@ carriage h c t e f b =
     let n : (c == 0x0A || c == 0x0D) ≡ true = ap (λ (l : List ℕ). first l == 0x0A || first l == 0x0D) (sym e) ∙ b in
     let m : (c == 0x0A || (c == 0x0D && not (first t == 0x0A))) ≡ false = ap (λ (l : List ℕ). ends_line l) (sym e)
     ∙ f in
-    ap (λ (l : List ℕ). first l == 0x0A || first l == 0x0D) (text_behind h c t e)
+    ap (λ (l : List ℕ). first l == 0x0A || first l == 0x0D) (stepped_text h c t e)
     ∙ on (c == 0x0A) (c == 0x0D) (first t == 0x0A) (first t == 0x0D) n m
   where
     on : (a b d f : Bool) → (a || b) ≡ true → (a || (b && not d)) ≡ false → (d || f) ≡ true

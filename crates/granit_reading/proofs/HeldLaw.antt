@@ -1,5 +1,6 @@
 -- What is held behind lexemes is said of them.
 use Rattle.std.proofs.Common.{◌≡◌, ℕ, suc, Bool, true, false, List, [], length, refl, sym, ap, ◌∙◌, subst}
+use Rattle.std.proofs.lemmas.Bool.{both_ways}
 use Rattle.granit_error.specs.OptionsData.{OptionsData}
 use Rattle.granit_lexemes.specs.Here.{Here, mark_of, start_of}
 use Rattle.granit_lexemes.specs.Lexeme.{Lexeme, Item}
@@ -19,7 +20,8 @@ use Rattle.granit_reading.proofs.Telling.{gap_agrees, telling}
 -- ---- one read
 
 -- behind the end of the text the last lexeme is that
-read_ends : (o : OptionsData) (ls : List Lexeme) {s after : ReaderState} {items : List Item} → Reads o s items after →
+pub read_ends : (o : OptionsData) (ls : List Lexeme) {s after : ReaderState} {items : List Item}
+    → Reads o s items after →
     is_end items ≡ true → has_ended (latest items ls) ≡ true
 read_ends o ls (of_comment at g k) e = absurd cc
 read_ends o ls {s = s} (of_lexeme {items = items} at behind sort comes given keys) e =
@@ -55,9 +57,6 @@ pub lexemes_counted : (o : OptionsData) (h : Here) (items : List Item) (t : Read
     t.laid.number ≡ length (latest items [])
 lexemes_counted o h items t r = reached_counts o [] r refl
 
-never_both : (v : Bool) → v ≡ true → v ≡ false → ⊥
-never_both v a b = absurd cc
-
 goes_said : (o : OptionsData) (text : List ℕ) (ls : List Lexeme) {s next : ReaderState} {items : List Item}
     (t : ReaderState) (all more : List Item) → Reads o s items next → (is_end items ≡ true → more ≡ []) →
     ReadRuns o text s ls items next → latest all ls ≡ latest more (latest items ls) →
@@ -68,9 +67,10 @@ goes_said : (o : OptionsData) (text : List ℕ) (ls : List Lexeme) {s next : Rea
     RunsSay o text (mark_of t.here) (latest more (latest items ls)) t.laid) → (v : Bool) → is_end items ≡ v →
     RunsSay o text (mark_of t.here) (latest more (latest items ls)) t.laid
 goes_said o text ls {items = items} t all more read last p same n on true y =
-    absurd (never_both (has_ended (latest items ls)) (read_ends o ls read y)
+    absurd (both_ways (has_ended (latest items ls))
     (sym (ap (λ (more : List Item). has_ended (latest more (latest items ls))) (last y))
-    ∙ (sym (ap has_ended same) ∙ n)))
+    ∙ (sym (ap has_ended same) ∙ n))
+    (read_ends o ls read y))
 goes_said o text ls t all more read last p same n on false y =
     on p.place (p.runs y) (p.signed y) (sym (ap has_ended same) ∙ n)
 

@@ -2,24 +2,28 @@
 -- lines.
 use Rattle.std.proofs.Common.{◌≡◌, ℕ, Bool, true, false, List, [], ◌∷◌, ◌++◌, Option, Some, None, refl, sym, ap, ◌∙◌}
 use Rattle.std.proofs.Common.{subst}
+use Rattle.std.specs.Prelude.{if◌then◌else◌}
+use Rattle.granit_base.specs.Place.{Mark}
 use Rattle.granit_error.specs.OptionsData.{OptionsData}
 use Rattle.granit_lexemes.specs.Comment.{CommentRead}
 use Rattle.granit_lexemes.specs.Here.{Here, mark_of}
 use Rattle.granit_lexemes.specs.Lexeme.{KeyStart, Lexeme, Item, OfLexeme, OfComment}
+use Rattle.granit_lexemes.specs.declared.layout.PossibleKey.{PossibleKey}
 use Rattle.granit_machine.specs.Laid.{Laid}
 use Rattle.granit_machine.specs.Lexing.{Flagging, is_nearest, others, and_key, flag_lexeme, flag_item, flagging}
 use Rattle.granit_machine.specs.Lexing.{flagged}
 use Rattle.granit_machine.specs.NodeLexemes.{note_items}
-use Rattle.granit_machine.specs.PossibleKeys.{fresh}
+use Rattle.granit_machine.specs.PossibleKeys.{fresh, fresh_key, is_stale}
 use Rattle.granit_machine.specs.ReaderState.{ReaderState, reader_start}
 use Rattle.granit_language.specs.Before.{freshened, closed_for}
 use Rattle.granit_language.specs.Fitting.{role_of, role_fits, keys_behind, ItemKeysFit, ItemLinesFit}
 use Rattle.granit_language.specs.Reached.{ends_column_by, GivenAt, Reads, of_comment, of_lexeme, Reached, stops}
 use Rattle.granit_language.specs.Reached.{goes_on}
+use Rattle.granit_language.specs.Seen.{key_number}
 use Rattle.granit_reading.proofs.Choosing.{Held, Within, Below, below_within, Chosen, nones, chosen_none, chosen_within}
 use Rattle.granit_reading.proofs.Choosing.{and_number, pending, stepped, below_moves, role_key}
 use Rattle.granit_reading.proofs.Holding.{held, full, fresh-within}
-use Rattle.granit_reading.proofs.Moving.{start_number, Moved, agrees_held, lexeme_moved, closed_held}
+use Rattle.granit_reading.proofs.Moving.{Moved, agrees_held, lexeme_moved, closed_held}
 use Rattle.granit_reading.proofs.Telling.{gap_agrees, telling}
 
 -- flagged items that fit where these keys are possible
@@ -41,7 +45,7 @@ fits_within a b y p f = record {
 comment_fits : (hs : Held) (c : CommentRead) (y : Flagging) → Fits hs y → Fits hs (flag_item (OfComment c) y)
 comment_fits hs c y f = record { ks = f.ks; chosen = f.chosen; keys = (refl, f.keys); lines = (refl, f.lines) }
 
-named : (key : Option KeyStart) (ns : List ℕ) → and_key key ns ≡ and_number (start_number key) ns
+pub named : (key : Option KeyStart) (ns : List ℕ) → and_key key ns ≡ and_number (key_number key) ns
 named None ns = refl
 named (Some k) ns = refl
 
@@ -184,3 +188,12 @@ keys_fit o h items t r = let f = all_fit o r tt in subst (λ ks. ItemKeysFit ks 
 pub lines_fit : (o : OptionsData) (h : Here) (items : List Item) (t : ReaderState) → Reached o (reader_start h) items t
     → ItemLinesFit (flagged items)
 lines_fit o h items t r = (all_fit o r tt).lines
+
+pub fresh_some : (o : OptionsData) (f : Bool) (m : Mark) (key : Option PossibleKey) (k : PossibleKey) →
+    fresh_key o f m key ≡ Some k → key ≡ Some k
+fresh_some o f m None k e = e
+fresh_some o f m (Some j) k e = on (is_stale o f m j) e
+  where
+    on : (v : Bool) → ◌≡◌ {A = Option PossibleKey} (if v then None else Some j) (Some k) → Some j ≡ Some k
+    on true e = absurd cc
+    on false e = e

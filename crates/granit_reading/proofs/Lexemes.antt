@@ -1,6 +1,7 @@
 -- What the reader reads as a lexeme of a sort stands there, and what it refuses is wrong there.
-use Rattle.std.proofs.Common.{◌≡◌, ℕ, ◌<◌, ◌≤◌, ◌==◌, ◌&&◌, not, Bool, true, false, List, [], ◌∷◌, length, Option, Some}
+use Rattle.std.proofs.Common.{◌≡◌, ℕ, ◌<◌, ◌==◌, ◌&&◌, not, Bool, true, false, List, [], ◌∷◌, length, Option, Some}
 use Rattle.std.proofs.Common.{None, Result, Ok, Err, ◌⊎◌, inl, inr, refl, sym, ap, ◌∙◌, subst, arith}
+use Rattle.std.proofs.lemmas.Bool.{not-false, not-true, leb-true}
 use Rattle.std.specs.Prelude.{if◌then◌else◌, nat_le, slice_index}
 use Rattle.std.proofs.lemmas.Bool.Decides.{nat_tests}
 use Rattle.granit_base.specs.Classes.{is_gap, is_blank, is_breakz}
@@ -71,7 +72,6 @@ use Rattle.granit_reading.proofs.Deciding.{innermost_decided, full_decided, brac
 use Rattle.granit_reading.proofs.Deciding.{tabbed_decided, nul_decided, touching_decided, layout_is}
 use Rattle.granit_reading.proofs.Gapping.{TailAt, tail_is, NotedAt, comment_at_is, refuse_tab_is, GapAt, gap_is}
 use Rattle.granit_reading.proofs.Gapping.{past_white}
-use Rattle.granit_reading.proofs.Sorting.{not_true, not_false}
 
 abbrev pub GivenBy : OptionsData → Bool → LexemeSort → Here → Laid → List Item × ReaderState → Type 0
 GivenBy o ends sort h l x = Given o ends sort h l x.0 x.1
@@ -147,15 +147,12 @@ module _ {B : Type 0} (R : B → Type 0) (W : FaultKind → Mark → Type 0) (o 
 
 -- ---- brackets and `,`
 
-at_least : (a b : ℕ) → nat_le a b ≡ true → a ≤ b
-at_least a b e = grind (arith, nat_tests)
-
 pub opener-is : (o : OptionsData) (bracket : Bracket) (ends : Bool) (h : Here) (l : Laid)
     → PlacedAs o ends (OpenSign bracket) h l (opener o bracket ends h l)
 unfolding opener tailed
 opener-is o bracket ends h l =
     let R = GivenBy o ends (Placed (OpenSign bracket)) h l in let W = Refuses o h l (OpenSign bracket) in
-    answers_if R W (nat_le o.flow_nesting_limit (length l.brackets)) _ _ (λ y. flow_deep (at_least _ _ y))
+    answers_if R W (nat_le o.flow_nesting_limit (length l.brackets)) _ _ (λ y. flow_deep (leb-true _ _ y))
     (λ n. tail_then R W (step h) _ (λ kind m p. tail (tail_of_open (less _ _ n)) p)
     (λ x p. ((record { tail = x.0; tailed = p; is = refl }, less _ _ n), refl)))
 
@@ -165,9 +162,9 @@ unfolding closes tailed
 closes-is o bracket b bs ends h l e =
     let R = GivenBy o ends (Placed (CloseSign bracket)) h l in let W = Refuses o h l (CloseSign bracket) in
     answers_if R W (not (same_bracket b.bracket bracket)) _ _
-    (λ y. mismatched e (denies (bracket_decided b.bracket bracket) (not_true _ y)))
+    (λ y. mismatched e (denies (bracket_decided b.bracket bracket) (not-true _ y)))
     (λ n. let inner : ClosesInnermost bracket l.brackets = subst (ClosesInnermost bracket) (sym e)
-    (tells (bracket_decided b.bracket bracket) (not_false _ n)) in
+    (tells (bracket_decided b.bracket bracket) (not-false _ n)) in
     tail_then R W (step h) _ (λ kind m p. tail (tail_of_close inner) p)
     (λ y p. (
       (record { tail = y.0; tailed = p; is = refl }, inner),
@@ -213,8 +210,8 @@ dash-is o ends h l =
     answers_if R W (is_in_flow l) _ _ (λ y. dash_in_flow (tells (flow_decided l) y)) (λ in_flow.
     let out = tells (outside_decided l) (ap not in_flow) in
     answers_if R W (not (is_allowed h.begins_line h.tab l)) _ _
-    (λ y. dash_here out (denies (begin_decided h l) (not_true _ y))) (λ not_here.
-    let may = tells (begin_decided h l) (not_false _ not_here) in
+    (λ y. dash_here out (denies (begin_decided h l) (not-true _ y))) (λ not_here.
+    let may = tells (begin_decided h l) (not-false _ not_here) in
     room_then R W o h.place.column (mark_of h) l (entered h.place.column l) _ (λ many. dash_deep out may many) (λ room.
     let entry : EntryFits o h l = record { outside = out; allowed = may; room = room } in
     tail_then R W (step h) _ (λ kind m p. tail (tail_of_dash entry) p) (λ x p.
@@ -281,8 +278,8 @@ module _ (o : OptionsData) (ends : Bool) (h : Here) (l : Laid) where
       let R = GivenBy o ends (Placed QuestionSign) h l in let W = Refuses o h l QuestionSign in
       let out = tells (outside_decided l) (ap not e) in
       answers_if R W (not (is_allowed h.begins_line h.tab l)) _ _
-      (λ y. question_here out (denies (begin_decided h l) (not_true _ y))) (λ not_here.
-      let may = tells (begin_decided h l) (not_false _ not_here) in
+      (λ y. question_here out (denies (begin_decided h l) (not-true _ y))) (λ not_here.
+      let may = tells (begin_decided h l) (not-false _ not_here) in
       room_then R W o h.place.column (mark_of h) l (entered h.place.column l) _ (λ many. question_deep out may many)
       (λ room.
       let entry : EntryFits o h l = record { outside = out; allowed = may; room = room } in
@@ -357,8 +354,8 @@ module _ (o : OptionsData) (ends : Bool) (h : Here) (l : Laid) where
       let here : ColonTailed h l = record { apart = apart; tail = held; after = after; tailed = t } in
       answers_if (GivenBy o ends (Placed ColonSign) h l) (Refuses o h l ColonSign)
       (not (is_allowed h.begins_line h.tab l)) _ _
-      (λ y. colon_here here f out (denies (begin_decided h l) (not_true _ y))) (λ not_here.
-      let may = tells (begin_decided h l) (not_false _ not_here) in
+      (λ y. colon_here here f out (denies (begin_decided h l) (not-true _ y))) (λ not_here.
+      let may = tells (begin_decided h l) (not-false _ not_here) in
       room_then (GivenBy o ends (Placed ColonSign) h l) (Refuses o h l ColonSign) o h.place.column (mark_of h) l
       (pair_entered h.place.column l) _ (λ many. colon_deep here f out may many)
       (λ room. colon_leaf false None e f held after apart t (may, room)))

@@ -22,15 +22,12 @@ use Rattle.granit_machine.proofs.LexLengths.{noded-flow}
 use Rattle.granit_language.specs.Before.{behind_colon, behind_question_sign, closed_for, run_for, behind}
 use Rattle.granit_language.specs.Fitting.{OfNode, Opens, Closes, Keyed, Other, role_of, outer_keys, begins_block_entry}
 use Rattle.granit_language.specs.Fitting.{stands_as_entry}
+use Rattle.granit_language.specs.Seen.{key_number as start_number}
 use Rattle.granit_language.specs.Standing.{key_start, ClosesInnermost}
 use Rattle.granit_reading.proofs.Choosing.{Held, top_of, Within, within_self, Moves, role_key}
 use Rattle.granit_reading.proofs.Holding.{key_number, held_in, held, top_held, Noted, node_noted, forgets-held}
 use Rattle.granit_reading.proofs.Holding.{forgets-within, shut_in}
 use Rattle.granit_reading.proofs.Telling.{Told, Unkeyed, Allowed, SaysOf, Agrees}
-
-abbrev pub start_number : Option KeyStart → Option ℕ
-start_number None = None
-start_number (Some k) = Some k.number
 
 -- what one lexeme makes of the possible keys
 pub record Moved (l : Laid) (x : Lexeme) (after : Laid) : Type 0 where
@@ -87,7 +84,7 @@ line_told {l = l} {x = x} p b = ap (λ f. f || (b || (x.begins_line || x.follows
 -- ---- lexemes by what they do to the keys
 
 -- what is told of a lexeme by its kind where it names no key
-role_unkeyed : {kind : LexemeKind} {x : Lexeme} → Unkeyed kind x → role_of x.kind x.key ≡ role_of kind None
+pub role_unkeyed : {kind : LexemeKind} {x : Lexeme} → Unkeyed kind x → role_of x.kind x.key ≡ role_of kind None
 role_unkeyed u = ap₂ role_of u.is u.key
 
 module _ (h : Here) (l : Laid) (x : Lexeme) (after : Laid) (next : after.number ≡ suc l.number) (kind : LexemeKind)

@@ -5,6 +5,7 @@ use Rattle.std.specs.Prelude.{nat_le, nat_lt, is_none}
 use Rattle.granit_base.specs.Place.{Mark}
 use Rattle.granit_base.specs.Written.{Written}
 use Rattle.granit_error.specs.OptionsData.{OptionsData}
+use Rattle.granit_lexemes.proofs.PieceLemmas.{same_error}
 use Rattle.granit_lexemes.specs.Comment.{CommentRead}
 use Rattle.granit_lexemes.specs.Here.{mark_of, start_of}
 use Rattle.granit_lexemes.specs.Lexeme as lexemes
@@ -13,7 +14,7 @@ use Rattle.granit_lexemes.specs.Lexeme.{OfComment}
 use Rattle.granit_lexemes.specs.Outcome.{Fault, ◌>>=◌}
 use Rattle.granit_lexemes.specs.Pieces.{with_front}
 use Rattle.granit_lexemes.specs.PlainEvent.{PlainTag, PlainVersion, PlainEvent, EventKind}
-use Rattle.granit_scalars.proofs.Nameless.{IsNameless, ok_none, err_none, then_none, if_none, pieces_none, same_error}
+use Rattle.granit_scalars.proofs.Nameless.{IsNameless, ok_none, err_none, then_none, if_none, pieces_none}
 use Rattle.granit_machine.specs.BlockSteps.{in_sequence, next_pair, takes_node, behind_indicator, at_block_key}
 use Rattle.granit_machine.specs.BlockSteps.{behind_block_key, in_mapping}
 use Rattle.granit_machine.specs.Closing.{ends_top, close_turn, depth, close}

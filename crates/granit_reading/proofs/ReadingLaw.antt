@@ -1,5 +1,5 @@
 -- What the reader reads of a text is what the text holds.
-use Rattle.std.proofs.Common.{◌≡◌, ℕ, ◌&&◌, ◌||◌, Bool, true, false, List, [], ◌∷◌, ◌++◌, Option, Some, None, Result}
+use Rattle.std.proofs.Common.{◌≡◌, ℕ, ◌&&◌, Bool, true, false, List, [], ◌∷◌, ◌++◌, Option, Some, None, Result}
 use Rattle.std.proofs.Common.{Ok, Err, ◌⊎◌, inl, inr, refl, sym, ap, ap₂, ◌∙◌, subst, append_assoc}
 use Rattle.std.specs.Prelude.{if◌then◌else◌}
 use Rattle.std.proofs.lemmas.List.{append-nil}
@@ -157,10 +157,6 @@ lexeme_of-is o PlainSign ends h l p = spelled_as o ends PlainSign h (noded false
     (plain-is o ends h (noded false h l) (ap (λ f. is_content f h.unread.text) (noded-flow false h l) ∙ p))
 lexeme_of-is o StrayMark ends h l p = inl stray
 lexeme_of-is o NoSign ends h l p = inl nothing
-
-first_not : (x y : Bool) → (x || y) ≡ false → x ≡ false
-first_not true y e = absurd cc
-first_not false y e = refl
 
 -- what is wrong at a lexeme, or inside it
 abbrev pub RefusesAny : OptionsData → LexemeSort → Here → Laid → FaultKind → Mark → Type 0

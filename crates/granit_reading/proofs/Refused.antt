@@ -8,6 +8,7 @@ use Rattle.granit_base.specs.Classes.{is_blank, is_breakz, is_anchor_char}
 use Rattle.granit_base.specs.Place.{Mark, first}
 use Rattle.granit_error.specs.FaultKind.{FaultKind, SimpleKeyExpected, RecursionLimitExceeded}
 use Rattle.granit_error.specs.OptionsData.{OptionsData}
+use Rattle.granit_lexemes.proofs.HereLemmas.{stepped_text}
 use Rattle.granit_lexemes.specs.Comment.{CommentRead, comment, Spoils}
 use Rattle.granit_lexemes.specs.Here.{Here, next_char, mark_of, step}
 use Rattle.granit_lexemes.specs.LayoutData.{LayoutData, is_left}
@@ -23,13 +24,13 @@ use Rattle.granit_lexemes.specs.QuotedExtent.{AnswersQuoted}
 use Rattle.granit_lexemes.specs.QuotedScalar.{quoted_scalar}
 use Rattle.granit_lexemes.specs.Tags.{name_at}
 use Rattle.granit_lexemes.specs.Tail.{tail_at}
+use Rattle.granit_scalars.proofs.CommentCauses.{comment_wrong}
 use Rattle.granit_scalars.proofs.Comments.{comment_reads}
 use Rattle.granit_scalars.proofs.PlainOnce.{plain_cause_refused}
 use Rattle.granit_base.specs.PlainContent.{is_content}
 use Rattle.granit_lexemes.specs.PlainExtent.{RefusesPlain}
-use Rattle.granit_scalars.proofs.QuotedEscapes.{text_behind}
 use Rattle.granit_scalars.proofs.QuotedOnce.{quoted_is_answered}
-use Rattle.granit_blocks.proofs.BlockCauses.{comment_wrong, in_comment_fails, cause_refused}
+use Rattle.granit_blocks.proofs.BlockCauses.{in_comment_fails, cause_refused}
 use Rattle.granit_blocks.proofs.BlockHeads.{tail_is, tail_touched}
 use Rattle.granit_names.proofs.NameLaw.{name_run}
 use Rattle.granit_machine.specs.Columns.{refuse_column, entered, closed_at, ends_at}
@@ -150,7 +151,7 @@ name_refused_there h (nameless e) = name_run h [] (step h).unread.text refl tt
     behind_first [] f = ap (λ (g : Here). first g.unread.text)
         (cond-true (length h.unread.text == 0) _ _ (ap (λ (t : List ℕ). length t == 0) f)) ∙ ap first f
         ∙ sym (ap (λ (t : List ℕ). slice_index t 1) f)
-    behind_first (c ∷ t) f = ap first (text_behind h c t f) ∙ sym (ap (λ (t : List ℕ). slice_index t 1) f)
+    behind_first (c ∷ t) f = ap first (stepped_text h c t f) ∙ sym (ap (λ (t : List ℕ). slice_index t 1) f)
 
 -- ---- signs
 

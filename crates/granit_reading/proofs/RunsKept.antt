@@ -1,6 +1,7 @@
 -- What each lexeme makes of the runs that may be a key.
 use Rattle.std.proofs.Common.{◌≡◌, ℕ, ◌&&◌, Bool, true, false, List, [], ◌∷◌, ◌++◌, drop, map, Option, Some, None, refl}
 use Rattle.std.proofs.Common.{sym, ap, ap₂, ◌∙◌, subst, not, ◌⊎◌, inl, inr}
+use Rattle.std.proofs.Math.Bool.{and-false}
 use Rattle.std.specs.Prelude.{if◌then◌else◌}
 use Rattle.granit_base.specs.Place.{Mark}
 use Rattle.granit_error.specs.OptionsData.{OptionsData}
@@ -194,14 +195,10 @@ last_says ls x l a s p = record {
   sign = s.indicator ∙ p.sign;
 }
 
-and_false : (a : Bool) → (a && false) ≡ false
-and_false true = refl
-and_false false = refl
-
 -- what is no sign lets no sign's place begin
 no_sign : (x : Lexeme) (kind : LexemeKind) → Unkeyed kind x → is_key_sign kind None ≡ false
     → (not x.in_flow && is_key_sign x.kind x.key) ≡ false
-no_sign x kind u e = ap (λ b. not x.in_flow && b) (ap₂ is_key_sign u.is u.key ∙ e) ∙ and_false (not x.in_flow)
+no_sign x kind u e = ap (λ b. not x.in_flow && b) (ap₂ is_key_sign u.is u.key ∙ e) ∙ and-false (not x.in_flow)
 
 -- behind a lexeme of this kind neither an opener's nor a dash's place
 quiet_last : (x : Lexeme) (kind : LexemeKind) (a : LastLexeme) → Unkeyed kind x → opens_entry kind x.in_flow ≡ false

@@ -1,5 +1,5 @@
 -- The key of each `:` of a text is the run of lexemes before it.
-use Rattle.std.proofs.Common.{◌≡◌, ℕ, Bool, true, false, List, [], ◌∷◌, ◌++◌, drop, Option, Some, None, refl}
+use Rattle.std.proofs.Common.{◌≡◌, ℕ, Bool, true, false, List, [], ◌∷◌, ◌++◌, drop, Option, Some, refl}
 use Rattle.std.proofs.Common.{sym, ap, ap₂, ◌∙◌, subst, ◌⊎◌, inl, inr}
 use Rattle.std.specs.Prelude.{is_none}
 use Rattle.granit_language.specs.Stretch.{TailIf}
@@ -8,6 +8,7 @@ use Rattle.std.proofs.lemmas.List.{append_cancel_right}
 use Rattle.granit_base.specs.Classes.{is_blank, is_break, is_gap}
 use Rattle.granit_base.specs.Place.{Mark}
 use Rattle.granit_error.specs.OptionsData.{OptionsData}
+use Rattle.granit_lexemes.proofs.CharTests.{break_gap}
 use Rattle.granit_lexemes.specs.Comment.{CommentRead}
 use Rattle.granit_lexemes.specs.Here.{Here, next_char, is_quiet, mark_of, step, start_of}
 use Rattle.granit_lexemes.specs.Lexeme.{Lexeme, Item}
@@ -37,6 +38,7 @@ use Rattle.granit_language.specs.Standing.{QuestionStands, QuestionTail, a_comme
 use Rattle.granit_reading.proofs.ColumnsWhole.{latest_noted}
 use Rattle.granit_reading.proofs.Counting.{At, start_at, to_step}
 use Rattle.granit_reading.proofs.PlacesLaw.{gap_passes, given_places}
+use Rattle.granit_reading.proofs.ReadingLaw.{stops_there}
 use Rattle.granit_reading.proofs.RunsLaw.{onward, TabSays}
 use Rattle.granit_reading.proofs.Signs.{TabSeen, sign_tab, comment_end, From, from_gap, from_comment, from_tail}
 use Rattle.granit_reading.proofs.Signs.{over_break_from}
@@ -116,11 +118,7 @@ module _ (o : OptionsData) (text : List ℕ) where
 -- ---- reads
 
 no_break : (h : Here) → is_gap (next_char h) ≡ false → is_break (next_char h) ≡ true → ⊥
-no_break h g b = let z = Rattle.granit_reading.proofs.Gapping.break_gap (next_char h) b in cc
-
-gap_stops : {o : OptionsData} {h : Here} {l : Laid} {t : ReaderState} → GapStands o h l None t
-    → is_gap (next_char t.here) ≡ false
-gap_stops (in_front_of_lexeme at g n t k) = g.stops.0
+no_break h g b = let z = break_gap (next_char h) b in cc
 
 -- in front of a lexeme of the text the tab is one behind the sign
 tabs_say : (text : List ℕ) (ls : List Lexeme) (s : ReaderState) → At text s.here → Signed text ls s
@@ -255,7 +253,7 @@ module _ (o : OptionsData) (text : List ℕ) where
       let near = λ (k : PossibleKey) (e : top_key c ≡ Some k). subst (λ g. is_stale o g (mark_of h) k ≡ false)
       (sym n.1) (fresh_nears o at k (sym n.0 ∙ e)) in
       let tabs = λ (i : IsPlaced sort). closed_tabs text sort h f.laid ls
-      (tabs_say text ls f p.place (gap_keeps ls comes.gap d) (gap_stops comes.gap)
+      (tabs_say text ls f p.place (gap_keeps ls comes.gap d) (stops_there comes.gap)
       (placed_some sort _ _ h i comes.begins)) in
       let e = ap (λ (is : List Item). latest is ls) t.are ∙ latest_noted t.lexeme t.note ls in
       let goes = λ (w : t.lexeme.kind ≡ Rattle.granit_lexemes.specs.Lexeme.StreamEnd → ⊥). lexeme_goes o text h c ls

@@ -1,12 +1,14 @@
 -- What stands between a `?` or a `:` without key and the place behind it.
 use Rattle.std.proofs.Common.{◌≡◌, ℕ, suc, ◌==◌, ◌&&◌, ◌||◌, not, Bool, true, false, List, [], ◌∷◌, ◌++◌, length, drop}
 use Rattle.std.proofs.Common.{Option, Some, None, ◌⊎◌, inl, inr, refl, sym, ap, ap₂, ◌∙◌, subst, arith, append_assoc}
+use Rattle.std.proofs.Math.Seq.{drop-append_seam}
 use Rattle.std.specs.Prelude.{if◌then◌else◌, is_none, slice_index}
 use Rattle.std.proofs.lemmas.Bool.{cond-true, cond-false}
 use Rattle.std.proofs.lemmas.Bool.Decides.{nat_tests}
 use Rattle.std.proofs.lemmas.List.{append-nil}
 use Rattle.granit_base.specs.Classes.{is_gap, is_blank, is_break}
 use Rattle.granit_base.specs.Place.{Mark, first, ends_line}
+use Rattle.granit_lexemes.proofs.CharTests.{break_gap}
 use Rattle.granit_lexemes.specs.Basics.{past_break}
 use Rattle.granit_lexemes.specs.Comment.{CommentRead, StandsComment}
 use Rattle.granit_lexemes.specs.Gap.{Each}
@@ -14,9 +16,8 @@ use Rattle.granit_lexemes.specs.HeaderExtent.{LexemeTail, commented, uncommented
 use Rattle.granit_lexemes.specs.Here.{Here, next_char, is_quiet, first_tab, mark_of, begins_behind, tab_behind, step}
 use Rattle.granit_lexemes.specs.Moves.{past_prefix_mark}
 use Rattle.granit_lexemes.specs.PlainExtent.{over}
-use Rattle.granit_lexemes.proofs.HereLemmas.{not_empty}
+use Rattle.granit_lexemes.proofs.HereLemmas.{not_empty, stepped_text}
 use Rattle.granit_scalars.proofs.Comments.{steps_text}
-use Rattle.granit_scalars.proofs.QuotedEscapes.{text_behind}
 use Rattle.granit_scalars.proofs.Stepping.{seen, is_break_nul, second_of}
 use Rattle.granit_machine.specs.Gaps.{over_break_if}
 use Rattle.granit_language.specs.KeyRuns.{no_tab}
@@ -143,7 +144,7 @@ pub gap_text : {may : Type 0} {h at : Here} {gs : List ℕ} → GapTo may h gs a
 unfolding past_prefix_mark
 gap_text ends = refl
 gap_text {h = h} (white {c = c} {rest = rest} e w g) = e
-    ∙ ap (λ (l : List ℕ). c ∷ l) (sym (text_behind h c rest e) ∙ gap_text g)
+    ∙ ap (λ (l : List ℕ). c ∷ l) (sym (stepped_text h c rest e) ∙ gap_text g)
 gap_text {h = h} (prefix_mark {rest = rest} may column e g) = e
     ∙ ap (λ (l : List ℕ). 0xFEFF ∷ l) (sym (ap (drop 1) e) ∙ gap_text g)
 
@@ -152,11 +153,7 @@ blanks_gap : (cs : List ℕ) (h : Here) (rest : List ℕ) → h.unread.text ≡ 
 unfolding is_gap
 blanks_gap [] h rest e b = ends
 blanks_gap (c ∷ cs) h rest e b = white e (ap (λ v. v || is_break c) b.0)
-    (blanks_gap cs (step h) rest (text_behind h c (cs ++ rest) e) b.1)
-
-dropped : (cs rest : List ℕ) → drop (length cs) (cs ++ rest) ≡ rest
-dropped [] rest = Rattle.granit_scalars.proofs.Comments.none_dropped rest
-dropped (c ∷ cs) rest = dropped cs rest
+    (blanks_gap cs (step h) rest (stepped_text h c (cs ++ rest) e) b.1)
 
 -- where a comment ends its line does
 pub comment_end : {h after : Here} {c : CommentRead} → StandsComment h c after
@@ -165,7 +162,7 @@ pub comment_end : {h after : Here} {c : CommentRead} → StandsComment h c after
 comment_end {h = h} {after = after} {c = c} p =
     let n = suc (length c.text.characters) in
     let t : after.unread.text ≡ p.spelled.behind = ap (λ (g : Here). g.unread.text) p.lands ∙ steps_text n h
-    ∙ ap (drop n) p.spelled.spelled ∙ dropped c.text.characters p.spelled.behind in (
+    ∙ ap (drop n) p.spelled.spelled ∙ drop-append_seam c.text.characters p.spelled.behind in (
       p.spelled.spelled ∙ ap (λ (l : List ℕ). 0x23 ∷ (c.text.characters ++ l)) (sym t),
       elim p.spelled.ends
           [ inl e ↦ inl (t ∙ e) | inr b ↦ inr (ap (λ (l : List ℕ). is_break (first l)) t ∙ b) ],
@@ -219,9 +216,6 @@ over_break_from text i h (inr b) f = subst (From text i) (sym (cond-true (is_bre
     one : (h : Here) → is_break (next_char h) ≡ true → From text i h → From text i (step h)
     one h b f = let s = seen is_break h is_break_nul b in from_gap text i {may = ⊥}
         (white s.is (break_gap (next_char h) b) ends) f
-      where
-        break_gap : (c : ℕ) → is_break c ≡ true → is_gap c ≡ true
-        break_gap c e = Rattle.granit_reading.proofs.Gapping.break_gap c e
 
     line_feed : (c d : ℕ) → (c == 0x0D && d == 0x0A) ≡ true → is_break d ≡ true
     line_feed c d e = Rattle.granit_reading.proofs.Gapping.line_feed c d e

@@ -2,7 +2,7 @@
 use Rattle.std.proofs.Common.{◌≡◌, ◌≢◌, ℕ, ◌==◌, ◌&&◌, ◌||◌, Bool, true, false, not, List, ◌∷◌, length, inl, inr, refl}
 use Rattle.std.proofs.Common.{sym, ap, ap₂, ◌∙◌, subst, arith}
 use Rattle.std.specs.Prelude.{if◌then◌else◌, slice_index}
-use Rattle.std.proofs.lemmas.Bool.{cond-true, cond-false, and_parts, or_parts}
+use Rattle.std.proofs.lemmas.Bool.{cond-true, cond-false, and_parts, or_parts, or_cases, or_from}
 use Rattle.granit_base.specs.Classes.{is_blank_or_breakz, is_flow, is_printable, is_bom, is_break}
 use Rattle.granit_base.specs.Place.{first}
 use Rattle.granit_lexemes.specs.Basics.{is_document_mark}
@@ -10,12 +10,14 @@ use Rattle.granit_lexemes.specs.BlockScalar.{block_indicator}
 use Rattle.granit_lexemes.specs.Here.{Here}
 use Rattle.granit_lexemes.specs.declared.layout.Bracket.TheVariants.{Square, Curly}
 use Rattle.granit_lexemes.proofs.HereLemmas.{not_empty}
+use Rattle.granit_lexemes.specs.Lexeme.{Lexeme, LexemeKind}
 use Rattle.granit_machine.specs.LexemeSort.{PlacedSort, NoSign, PlainSign, LexemeSort, TextEnd, StartMark, EndMark}
 use Rattle.granit_machine.specs.LexemeSort.{Unprintable, DirectiveSign, Placed, sort_of, sort_at}
+use Rattle.granit_machine.specs.Reader.{is_end_kind}
 use Rattle.granit_language.specs.Begins.{ReservedChar, parts_colon, SignBegins, opens, closes, comma, dash}
 use Rattle.granit_language.specs.Begins.{question, colon, alias, anchor, tag, block, quote, stray, nothing, other}
 use Rattle.granit_language.specs.Begins.{ThreeStand, NoMark, Begins, at_end, dashes, dots, unprintable, directive, sign}
-use Rattle.granit_reading.proofs.Sorting.{same, some_of, three, three_stand}
+use Rattle.granit_reading.proofs.Sorting.{same, three, three_stand}
 
 is_not : (c d : ℕ) → c ≢ d → (c == d) ≡ false
 is_not c d n = on (c == d) refl
@@ -30,10 +32,6 @@ unless_and c d v n = on (c == d) refl
     on : (w : Bool) → (c == d) ≡ w → (w && v) ≡ false
     on true e = n (sym (same c d e))
     on false e = refl
-
-either_not : (a b : Bool) → a ≡ false → b ≡ false → (a || b) ≡ false
-either_not true b e f = absurd cc
-either_not false b e f = f
 
 and_not : (a b : Bool) → a ≡ false → (a && b) ≡ false
 and_not true b e = absurd cc
@@ -85,13 +83,13 @@ module _ (in_flow adjacent : Bool) (next : ℕ) where
       ∙ cond-false (c == 0x2A) _ _ (is_not c 0x2A a) ∙ cond-false (c == 0x26) _ _ (is_not c 0x26 b)
       ∙ cond-false (c == 0x21) _ _ (is_not c 0x21 e)
       ∙ cond-false ((c == 0x7C || c == 0x3E) && not in_flow) _ _
-      (and_not (c == 0x7C || c == 0x3E) (not in_flow) (either_not (c == 0x7C) (c == 0x3E) bar more))
-      ∙ cond-false (c == 0x27 || c == 0x22) _ _ (either_not (c == 0x27) (c == 0x22) (is_not c 0x27 f) (is_not c 0x22 g))
+      (and_not (c == 0x7C || c == 0x3E) (not in_flow) (or_from (c == 0x7C) (c == 0x3E) bar more))
+      ∙ cond-false (c == 0x27 || c == 0x22) _ _ (or_from (c == 0x27) (c == 0x22) (is_not c 0x27 f) (is_not c 0x22 g))
       ∙ cond-false (c == 0xFEFF) _ _ (is_not c 0xFEFF bom)
       ∙ cond-false (((c == 0x40 || c == 0x60) || c == 0x25) || (c == 0x7C || c == 0x3E)) _ _
-      (either_not ((c == 0x40 || c == 0x60) || c == 0x25) (c == 0x7C || c == 0x3E)
-      (either_not (c == 0x40 || c == 0x60) (c == 0x25) (either_not (c == 0x40) (c == 0x60) at tick) percent)
-      (either_not (c == 0x7C) (c == 0x3E) bar more))
+      (or_from ((c == 0x40 || c == 0x60) || c == 0x25) (c == 0x7C || c == 0x3E)
+      (or_from (c == 0x40 || c == 0x60) (c == 0x25) (or_from (c == 0x40) (c == 0x60) at tick) percent)
+      (or_from (c == 0x7C) (c == 0x3E) bar more))
 
   sign_answers : {c : ℕ} {s : PlacedSort} → SignBegins in_flow adjacent next c s → Sorts c s
   unfolding sort_of is_bom
@@ -123,7 +121,7 @@ no_mark_there column text bare = on (column == 0 && is_document_mark text) refl
     on false e = refl
     on true e = absurd (let p = and_parts (column == 0) (is_document_mark text) e in
         let z = sym (same column 0 p.0) in
-        elim (some_of (three 0x2D text) (three 0x2E text) p.1) [
+        elim (or_cases (three 0x2D text) (three 0x2E text) p.1) [
           | inl q ↦ bare.0 (three_stand 0x2D column text (omega arith) z q)
           | inr q ↦ bare.1
               (three_stand 0x2E column text (omega arith) z q)
@@ -179,3 +177,8 @@ pub sort_answers : (in_flow adjacent : Bool) (h : Here) {s : LexemeSort}
     → Begins in_flow adjacent h.place.column h.unread.text s → sort_at in_flow adjacent h ≡ s
 unfolding sort_at
 sort_answers in_flow adjacent h b = begins_answer in_flow adjacent b
+
+pub kind_not_end : {A : Type 0} (kind : LexemeKind) (x : Lexeme) → x.kind ≡ kind → is_end_kind kind ≡ false
+    → is_end_kind x.kind ≡ true → A
+kind_not_end kind x k n e = absurd (let f = ap is_end_kind k in cc (e, f, n))
+

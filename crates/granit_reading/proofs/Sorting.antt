@@ -1,16 +1,17 @@
 -- The start table says which lexeme begins at a place.
 use Rattle.std.proofs.Common.{◌≡◌, ◌≢◌, ℕ, ◌<◌, ◌==◌, ◌&&◌, ◌||◌, Bool, true, false, not, List, [], ◌∷◌, length, ◌⊎◌}
 use Rattle.std.proofs.Common.{inl, inr, refl, sym, ap, ◌∙◌, subst, arith}
-use Rattle.std.proofs.lemmas.Bool.{and_parts, or_parts}
+use Rattle.std.proofs.lemmas.Bool.{and_parts, or_parts, not-false, not-true, or_cases, eq-eqb}
 use Rattle.std.specs.Prelude.{if◌then◌else◌, slice_index}
 use Rattle.std.proofs.lemmas.Bool.Decides.{nat_tests}
-use Rattle.granit_base.specs.Classes.{is_blank_or_breakz, is_flow, is_printable, is_bom}
+use Rattle.granit_base.specs.Classes.{is_blank_or_breakz, is_printable, is_bom}
 use Rattle.granit_base.specs.Place.{first}
 use Rattle.granit_lexemes.specs.BlockScalar.{block_indicator}
 use Rattle.granit_lexemes.specs.Here.{Here}
 use Rattle.granit_lexemes.specs.declared.layout.Bracket.TheVariants.{Square, Curly}
 use Rattle.granit_lexemes.specs.Basics.{is_document_mark}
 use Rattle.granit_lexemes.proofs.HereLemmas.{not_empty}
+use Rattle.granit_machine.proofs.SortLemmas.{no_flow}
 use Rattle.granit_machine.specs.LexemeSort.{PlacedSort, LexemeSort, TextEnd, StartMark, EndMark, Unprintable}
 use Rattle.granit_machine.specs.LexemeSort.{DirectiveSign, Placed, OpenSign, CloseSign, CommaSign, DashSign}
 use Rattle.granit_machine.specs.LexemeSort.{QuestionSign, ColonSign, AliasSign, AnchorSign, TagSign, BlockSign}
@@ -30,22 +31,9 @@ same c d e = grind (arith, nat_tests)
 differs : (c d : ℕ) → (c == d) ≡ false → c ≢ d
 differs c d e = λ p. grind (arith, nat_tests)
 
-pub some_of : (x y : Bool) → (x || y) ≡ true → (x ≡ true) ⊎ (y ≡ true)
-some_of true y e = inl refl
-some_of false true e = inr refl
-some_of false false e = absurd cc
-
 unless : (c d : ℕ) (v : Bool) → (c == d && v) ≡ false → c ≡ d → v ≡ false
 unless c d true e p = absurd (grind (arith, nat_tests))
 unless c d false e p = refl
-
-pub not_true : (v : Bool) → not v ≡ true → v ≡ false
-not_true true e = absurd cc
-not_true false e = refl
-
-pub not_false : (v : Bool) → not v ≡ false → v ≡ true
-not_false true e = refl
-not_false false e = absurd cc
 
 bom_is : (c : ℕ) → is_bom c ≡ true → 0xFEFF ≡ c
 unfolding is_bom
@@ -55,20 +43,15 @@ no_bom : (c : ℕ) → is_bom c ≡ false → c ≢ 0xFEFF
 unfolding is_bom
 no_bom c e = differs c 0xFEFF e
 
-no_flow : (c : ℕ) → (c == 0x5B) ≡ false → (c == 0x7B) ≡ false → (c == 0x5D) ≡ false → (c == 0x7D) ≡ false
-    → (c == 0x2C) ≡ false → is_flow c ≡ false
-unfolding is_flow
-no_flow c p q r s t = rw (p, q, r, s, t) refl
-
 reserved : (c : ℕ) → (((c == 0x40 || c == 0x60) || c == 0x25) || (c == 0x7C || c == 0x3E)) ≡ true → ReservedChar c
-reserved c e = elim (some_of ((c == 0x40 || c == 0x60) || c == 0x25) (c == 0x7C || c == 0x3E) e) [
-  | inl p ↦ elim (some_of (c == 0x40 || c == 0x60) (c == 0x25) p) [
-    | inl q ↦ elim (some_of (c == 0x40) (c == 0x60) q)
+reserved c e = elim (or_cases ((c == 0x40 || c == 0x60) || c == 0x25) (c == 0x7C || c == 0x3E) e) [
+  | inl p ↦ elim (or_cases (c == 0x40 || c == 0x60) (c == 0x25) p) [
+    | inl q ↦ elim (or_cases (c == 0x40) (c == 0x60) q)
         [ inl r ↦ inl (inl (sym (same c 0x40 r))) | inr r ↦ inl (inr (sym (same c 0x60 r))) ]
     | inr q ↦ inr
         (inl (sym (same c 0x25 q)))
   ]
-  | inr p ↦ elim (some_of (c == 0x7C) (c == 0x3E) p)
+  | inr p ↦ elim (or_cases (c == 0x7C) (c == 0x3E) p)
       [ inl q ↦ inr (inr (inl (sym (same c 0x7C q)))) | inr q ↦ inr (inr (inr (sym (same c 0x3E q)))) ]
 ]
 
@@ -133,7 +116,7 @@ module _ (in_flow adjacent : Bool) (next : ℕ) where
       either P (c == 0x21) _ _ (λ e. at_char c 0x21 TagSign e tag) (λ n11.
       either P ((c == 0x7C || c == 0x3E) && not in_flow) _ _
       (λ e. let p = and_parts (c == 0x7C || c == 0x3E) (not in_flow) e in block_at c (c == 0x7C) refl p.0
-      (not_true in_flow p.1)) (λ n12.
+      (not-true in_flow p.1)) (λ n12.
       either P (c == 0x27 || c == 0x22) _ _ (λ e. quote_at c (c == 0x27) refl e) (λ n13.
       either P (is_bom c) _ _ (λ e. subst (λ c. SignBegins in_flow adjacent next c StrayMark) (bom_is c e) stray)
       (λ n14.
@@ -171,14 +154,11 @@ stand_three c column text (z, t, e, s) = ap (three c) e
     passes true false p q = absurd cc
     passes false b p q = absurd cc
 
-at_zero : (n : ℕ) → n ≡ 0 → (n == 0) ≡ true
-at_zero n e = grind (arith, nat_tests)
-
 mark_of_three : (column : ℕ) (text : List ℕ) → (column == 0 && is_document_mark text) ≡ false → NoMark column text
 mark_of_three column text e = (
-  λ s. no_three (column == 0) (three 0x2D text) (three 0x2E text) (at_zero column s.0)
+  λ s. no_three (column == 0) (three 0x2D text) (three 0x2E text) (eq-eqb column 0 s.0)
       (inl (stand_three 0x2D column text s)) e,
-  λ s. no_three (column == 0) (three 0x2D text) (three 0x2E text) (at_zero column s.0)
+  λ s. no_three (column == 0) (three 0x2D text) (three 0x2E text) (eq-eqb column 0 s.0)
       (inr (stand_three 0x2E column text s)) e,
 )
   where
@@ -191,7 +171,7 @@ mark_of_three column text e = (
 
 dash_three : (text : List ℕ) → (three 0x2D text || three 0x2E text) ≡ true → (first text == 0x2D) ≡ true
     → three 0x2D text ≡ true
-dash_three text e d = elim (some_of (three 0x2D text) (three 0x2E text) e) [
+dash_three text e d = elim (or_cases (three 0x2D text) (three 0x2E text) e) [
   | inl p ↦ p
   | inr p ↦ absurd (let q = and_parts ((slice_index text 0 == 0x2E && slice_index text 1 == 0x2E)
       && slice_index text 2 == 0x2E) (is_blank_or_breakz (slice_index text 3)) p in
@@ -202,7 +182,7 @@ dash_three text e d = elim (some_of (three 0x2D text) (three 0x2E text) e) [
 
 dot_three : (text : List ℕ) → (three 0x2D text || three 0x2E text) ≡ true → (first text == 0x2D) ≡ false
     → three 0x2E text ≡ true
-dot_three text e d = elim (some_of (three 0x2D text) (three 0x2E text) e) [
+dot_three text e d = elim (or_cases (three 0x2D text) (three 0x2E text) e) [
   | inr p ↦ p
   | inl p ↦ absurd (let q = and_parts ((slice_index text 0 == 0x2D && slice_index text 1 == 0x2D)
       && slice_index text 2 == 0x2D) (is_blank_or_breakz (slice_index text 3)) p in
@@ -240,9 +220,9 @@ module _ (in_flow adjacent : Bool) (h : Here) where
       (λ d. dots (three_stand 0x2E column (c ∷ text) (omega arith) (sym (same column 0 p.0))
       (dot_three (c ∷ text) p.1 d))))
       (λ m. let no = mark_of_three column (c ∷ text) m in
-      either P (not (is_printable c)) _ _ (λ e. unprintable no (not_true (is_printable c) e)) (λ y.
+      either P (not (is_printable c)) _ _ (λ e. unprintable no (not-true (is_printable c) e)) (λ y.
       either P (column == 0 && c == 0x25) _ _ (λ e. percent (c ∷ text) column e) (λ n.
-      sign no (not_false (is_printable c) y) (no_percent column c n) (sign_is in_flow adjacent (first text) c)))))
+      sign no (not-false (is_printable c) y) (no_percent column c n) (sign_is in_flow adjacent (first text) c)))))
 
   -- the sort of the lexeme is by the start table
   pub begins_is : Begins in_flow adjacent h.place.column h.unread.text (sort_at in_flow adjacent h)

@@ -13,7 +13,7 @@ use Rattle.granit_scalars.proofs.Turning.{Carries, pieces_hold}
 use Rattle.granit_machine.specs.Lexing.{lex, lex_start}
 use Rattle.granit_machine.specs.Reader.{read, LexState, is_end, behind_read, lex_turn, lex_len}
 use Rattle.granit_machine.specs.ReaderState.{ReaderState, Read, reader_start}
-use Rattle.granit_machine.proofs.LexLengths.{lex_turn-Shortens}
+use Rattle.granit_machine.proofs.LexLengths.{lex_turn-Shortens, at_read}
 use Rattle.granit_language.specs.Reached.{Reads, ReadRefused, StopsThere, ReadWhole, whole_ends, whole_stops}
 use Rattle.granit_language.specs.Reached.{whole_goes_on}
 use Rattle.granit_reading.proofs.Answering.{Answers}
@@ -106,9 +106,6 @@ pub record ReadsWhole (o : OptionsData) (s : LexState) (items : List Item) (ende
   pub fault_is : is_none left.fault ≡ ended
   pub reader_is : left.reader ≡ t
 
-abbrev At : ReaderState → LexState
-At s = record { reader = s; ended = false; fault = None }
-
 ended_done :
     (o : OptionsData) (next : ReaderState) →
     lex_turn o (record { reader = next; ended = true; fault = None })
@@ -118,13 +115,13 @@ ended_done o next = refl
 
 turn_on :
     (o : OptionsData) (s next : ReaderState) (items : List Item) (v : Bool) → is_end items ≡ v → Reads o s items next →
-    lex_turn o (At s) ≡ Ok (Some items, record { reader = next; ended = v; fault = None })
+    lex_turn o (at_read s) ≡ Ok (Some items, record { reader = next; ended = v; fault = None })
 turn_on o s next items v e r =
     turn_answers o s next None items r ∙ ap (λ v. Ok (Some items, record { reader = next; ended = v; fault = None })) e
 
 refused_turn :
     (o : OptionsData) (s : ReaderState) (f : Fault) → read o s ≡ Err f →
-    lex_turn o (At s) ≡ Ok (None, record { reader = s; ended = false; fault = Some f })
+    lex_turn o (at_read s) ≡ Ok (None, record { reader = s; ended = false; fault = Some f })
 unfolding lex_turn
 refused_turn o s f e = ap (λ r. behind_read r s) e
 
@@ -139,11 +136,11 @@ refused_there o s n = stopped o s n (read o s) refl (read-is o s)
 
 more_given :
     (o : OptionsData) (s next : ReaderState) (items more : List Item) (v : Bool) (left : LexState) →
-    lex_turn o (At s) ≡ Ok (Some items, record { reader = next; ended = v; fault = None }) →
+    lex_turn o (at_read s) ≡ Ok (Some items, record { reader = next; ended = v; fault = None }) →
     pieces lex_len (lex_turn o) (record { reader = next; ended = v; fault = None }) ≡ Ok (more, left) →
-    pieces lex_len (lex_turn o) (At s) ≡ Ok (items ++ more, left)
+    pieces lex_len (lex_turn o) (at_read s) ≡ Ok (items ++ more, left)
 more_given o s next items more v left turn given =
-    pieces_more lex_len (lex_turn o) (lex_turn-Shortens o) (At s) (record {
+    pieces_more lex_len (lex_turn o) (lex_turn-Shortens o) (at_read s) (record {
       reader = next;
       ended = v;
       fault =
@@ -154,7 +151,7 @@ more_given o s next items more v left turn given =
 
 pub reads_whole :
     (o : OptionsData) {s t : ReaderState} {items : List Item} {ended : Bool} → ReadWhole o s items ended t →
-    ReadsWhole o (At s) items ended t
+    ReadsWhole o (at_read s) items ended t
 reads_whole o {s = s} {items = items} (whole_ends {next = next} r e) =
     let done : LexState = record { reader = next; ended = true; fault = None } in
     record {
@@ -171,7 +168,7 @@ reads_whole o {s = s} (whole_stops n) =
     let left : LexState = record { reader = s; ended = false; fault = Some f.0 } in
     record {
       left = left;
-      given = pieces_done lex_len (lex_turn o) (At s) left (refused_turn o s f.0 f.1);
+      given = pieces_done lex_len (lex_turn o) (at_read s) left (refused_turn o s f.0 f.1);
       fault_is = refl;
       reader_is = refl;
     }

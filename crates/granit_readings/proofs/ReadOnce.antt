@@ -1,8 +1,8 @@
 -- A text has one reading at most, as trees and as events.
-use Rattle.std.proofs.Common.{◌≡◌, ℕ, true, List, [], ◌∷◌, ◌++◌, map, Option, Some, None, Ok, Result, refl, sym}
+use Rattle.std.proofs.Common.{◌≡◌, ℕ, true, List, [], ◌∷◌, ◌++◌, map, None, Ok, Result, refl, sym}
 use Rattle.std.proofs.Common.{ap, ◌∙◌, subst}
 use Rattle.std.proofs.lemmas.List.{append-nil}
-use Rattle.std.specs.Prelude.{is_none}
+use Rattle.granit_lexemes.proofs.PieceLemmas.{fault_none}
 use Rattle.granit_answers.proofs.OneCause.{answer_reads, reading_answered}
 use Rattle.granit_answers.specs.Answers.{AnswersReading}
 use Rattle.granit_before.proofs.CommentsSaid.{one_telling}
@@ -46,10 +46,6 @@ items_of_answer : (xs ys : List Item) (s t : LexState) →
     ◌≡◌ {A = Result (List Item × LexState) Fault} (Ok (xs, s)) (Ok (ys, t)) → xs ≡ ys
 items_of_answer xs ys s t e =
     let f : ◌≡◌ {A = List Item × LexState} (xs, s) (ys, t) = cc in ap (λ (y : List Item × LexState). y.0) f
-
-no_fault : (f : Option Fault) → is_none f ≡ true → f ≡ None
-no_fault None e = refl
-no_fault (Some f) e = absurd cc
 
 -- ---- the items of a text
 
@@ -141,7 +137,7 @@ module _ (o : OptionsData) (x : List ℕ) where
       let lexed = all_read_whole o (start_of x) (items_of r.items) true r.state r.stand in
       let same = flags_known r.items r.state r.stand r.flags in
       let spelled = r.reading.spelled ∙ ap Lexemes same in
-      reading_answered o x (items_of r.items) lexed.0 (stream_events s []) lexed.1 (no_fault lexed.0.fault lexed.2)
+      reading_answered o x (items_of r.items) lexed.0 (stream_events s []) lexed.1 (fault_none lexed.0.fault lexed.2)
       (record {
         stream = s;
         spelled = spelled;

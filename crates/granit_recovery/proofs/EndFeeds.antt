@@ -1,8 +1,9 @@
 -- The end of a stream is the last event that its lexeme gives.
-use Rattle.std.proofs.Common.{◌≡◌, ℕ, ◌||◌, Bool, true, false, not, List, [], ◌∷◌, ◌++◌, Option, None, Ok, Err}
+use Rattle.std.proofs.Common.{◌≡◌, ℕ, ◌||◌, Bool, true, false, List, [], ◌∷◌, ◌++◌, Option, None, Ok, Err}
 use Rattle.std.proofs.Common.{refl, sym, ap, subst}
 use Rattle.granit_error.specs.OptionsData.{OptionsData}
-use Rattle.granit_invariants.proofs.TellStream.{all_closed, Closed, FeedGiven}
+use Rattle.granit_invariants.proofs.EndTelling.{not_both}
+use Rattle.granit_invariants.proofs.TellStream.{all_closed, Closed}
 use Rattle.granit_lexemes.specs.Comment.{CommentRead}
 use Rattle.granit_lexemes.specs.Lexeme as lexemes
 use Rattle.granit_lexemes.specs.Lexeme.{Lexeme, LexemeKind, Item, OfLexeme, OfComment}
@@ -10,6 +11,8 @@ use Rattle.granit_lexemes.specs.Outcome.{◌>>=◌}
 use Rattle.granit_lexemes.specs.Pieces.{pieces}
 use Rattle.granit_lexemes.specs.PlainEvent as events
 use Rattle.granit_lexemes.specs.PlainEvent.{PlainEvent, event_at}
+use Rattle.granit_machine.proofs.ClosingLemmas.{FeedGiven}
+use Rattle.granit_machine.proofs.SortLemmas.{end_kind_is}
 use Rattle.granit_machine.specs.Closing.{close, close_turn, depth, ends_top, goes_on_by_kind, goes_on_with}
 use Rattle.granit_machine.specs.FlowSteps.{in_flow_mapping_by, in_flow_pair, in_flow_sequence}
 use Rattle.granit_machine.specs.Frames.{DocumentStage, Frame, Root, WithProperties, BlockSequence, BlockMapping}
@@ -21,11 +24,11 @@ use Rattle.granit_machine.specs.Lexing.{FlaggedItem}
 use Rattle.granit_machine.specs.NodeEnds.{empty_span, may_be_indentless, under_column}
 use Rattle.granit_machine.specs.NodeSteps.{Stepped}
 use Rattle.granit_machine.specs.Parser.{feed, take_in, take_item, take_tail, take_token}
-use Rattle.granit_machine.specs.Reader.{is_end_kind}
 use Rattle.granit_machine.specs.StreamSteps.{behind_directives, behind_root, end_document, outside, when_between}
 use Rattle.granit_machine.specs.StreamSteps.{when_fresh}
 use Rattle.granit_machine.specs.TokenSort.{is_right_of, OfStream, Token, token_column, token_sort, TokenSort}
 use Rattle.granit_steps.proofs.StreamNesting.{is_end_item}
+use Rattle.granit_recovery.proofs.MarkRefusals.{end_token}
 
 -- the end of the stream stands last
 pub record EndsStream (es : List PlainEvent) : Type 0 where
@@ -37,9 +40,6 @@ pub record EndsStream (es : List PlainEvent) : Type 0 where
 abbrev EndsStep : Stepped → Type 0
 EndsStep (Ok q) = EndsStream q.given
 EndsStep (Err f) = Unit {0}
-
-abbrev end_token : Lexeme → Token
-end_token l = record { lexeme = l; sort = OfStream }
 
 given_last : (l : Lexeme) (p : ParserState) → EndsStream (give (event_at events.StreamEnd l.shown) p).given
 given_last l p =
@@ -84,10 +84,6 @@ properties_end l q fs e =
     ap (λ kind. goes_on_by_kind (l.in_flow || is_right_of (token_column (end_token l)) (under_column fs)) l.in_flow
     (may_be_indentless l.start.place.column fs) q OfStream kind) e
 
-not_both : (b : Bool) → b ≡ false → not b ≡ false → ⊥
-not_both true e f = cc
-not_both false e f = cc
-
 take_ends : (o : OptionsData) (fs : List Frame) (l : Lexeme) (p : ParserState) → l.kind ≡ lexemes.StreamEnd
     → ends_top (end_token l) p fs ≡ false → EndsStep (take_in o fs (end_token l) p)
 take_ends o [] l p kind e = outside_ends o p.stage l p kind
@@ -117,10 +113,6 @@ tail_ends kind tail next r is none x =
     subst (λ k. EndsStep (r >>= take_tail k tail next)) (sym is)
     (subst (λ c. EndsStep (r >>= take_tail lexemes.StreamEnd c next)) (sym none) (untailed_ends next r x))
 
-end_kind : (kind : LexemeKind) → is_end_kind kind ≡ true → kind ≡ lexemes.StreamEnd
-end_kind lexemes.StreamEnd e = refl
-end_kind kind e = absurd (cc)
-
 -- no comment stands behind it on its line
 abbrev pub Untailed : Item → Type 0
 Untailed (OfLexeme l) = l.tail ≡ None
@@ -130,7 +122,7 @@ item_ends : (o : OptionsData) (i : Item) (b : Bool) (next : Option ℕ) (p : Par
     → Untailed i → EndsStep (take_item o i b next p)
 item_ends o (OfComment c) b next p e none = absurd (cc)
 item_ends o (OfLexeme l) b next p e none =
-    let kind = end_kind l.kind e in
+    let kind = end_kind_is l.kind e in
     let t = end_token l in
     subst (λ s. EndsStep (taken_with s)) (sym (ap (token_sort b l.key) kind))
     (tail_ends l.kind l.tail next (close o t p >>= take_token o t) kind none

@@ -1,54 +1,26 @@
 -- The end of a text is read alone, and no comment stands behind it.
-use Rattle.std.proofs.Common.{◌≡◌, Bool, true, false, List, [], ◌∷◌, None, Ok, refl, sym, ap, subst}
+use Rattle.std.proofs.Common.{◌≡◌, Bool, true, List, [], ◌∷◌, None, Ok, refl, sym, ap, subst}
 use Rattle.std.proofs.Common.{◌∙◌}
 use Rattle.granit_error.specs.OptionsData.{OptionsData}
 use Rattle.granit_language.specs.Reached.{ends_column_by, of_comment, of_lexeme, Reads}
 use Rattle.granit_language.specs.Before.{freshened, in_front}
 use Rattle.granit_language.specs.Standing.{Given, GivenOne}
 use Rattle.granit_lexemes.specs.Here.{Here}
-use Rattle.granit_lexemes.specs.Lexeme.{Lexeme, LexemeKind, Item, OfLexeme, OfComment}
+use Rattle.granit_lexemes.specs.Lexeme.{Lexeme, Item, OfLexeme, OfComment}
 use Rattle.granit_machine.specs.Laid.{Laid}
-use Rattle.granit_machine.specs.LexemeSort.{LexemeSort, TextEnd, StartMark, EndMark, Unprintable, DirectiveSign, Placed}
-use Rattle.granit_machine.specs.LexemeSort.{OpenSign, CloseSign, CommaSign, DashSign, QuestionSign, ColonSign}
-use Rattle.granit_machine.specs.LexemeSort.{AliasSign, AnchorSign, TagSign, BlockSign, QuoteSign, StrayMark, NoSign}
-use Rattle.granit_machine.specs.LexemeSort.{PlainSign}
-use Rattle.granit_machine.specs.Reader.{is_end, is_end_kind, read}
+use Rattle.granit_machine.specs.LexemeSort.{TextEnd}
+use Rattle.granit_machine.specs.Reader.{is_end, read}
 use Rattle.granit_machine.specs.ReaderState.{ReaderState}
 use Rattle.granit_reading.proofs.Answering.{Answers}
 use Rattle.granit_reading.proofs.ReadingLaw.{read-is, ReadsBy}
-use Rattle.granit_reading.proofs.Telling.{SaysOf, telling}
+use Rattle.granit_reading.proofs.Telling.{end_sort}
+use Rattle.granit_reading.proofs.Telling.{telling}
 
 -- a lexeme alone, and no comment behind it on its line
 pub record Alone (items : List Item) : Type 0 where
   pub lexeme : Lexeme
   pub are : items ≡ OfLexeme lexeme ∷ []
   pub untailed : lexeme.tail ≡ None
-
-not_end : {A : Type 0} (kind : LexemeKind) (x : Lexeme) → x.kind ≡ kind → is_end_kind kind ≡ false
-    → is_end_kind x.kind ≡ true → A
-not_end kind x k n e = absurd (let f = ap is_end_kind k in cc (e, f, n))
-
-end_sort : (h : Here) (l : Laid) (x : Lexeme) (sort : LexemeSort) → SaysOf sort h l x → is_end_kind x.kind ≡ true
-    → sort ≡ TextEnd
-end_sort h l x TextEnd s e = refl
-end_sort h l x StartMark s e = not_end _ x s.0.is refl e
-end_sort h l x EndMark s e = not_end _ x s.0.is refl e
-end_sort h l x DirectiveSign s e = not_end _ x s.1.is refl e
-end_sort h l x Unprintable s e = absurd s
-end_sort h l x (Placed (OpenSign bracket)) s e = not_end _ x s.is refl e
-end_sort h l x (Placed (CloseSign bracket)) s e = not_end _ x s.0.is refl e
-end_sort h l x (Placed CommaSign) s e = not_end _ x s.is refl e
-end_sort h l x (Placed DashSign) s e = not_end _ x s.0.is refl e
-end_sort h l x (Placed QuestionSign) s e = not_end _ x s.0.is refl e
-end_sort h l x (Placed ColonSign) s e = not_end _ x s.0 refl e
-end_sort h l x (Placed AliasSign) s e = not_end _ x s.1.is refl e
-end_sort h l x (Placed AnchorSign) s e = not_end _ x s.1.is refl e
-end_sort h l x (Placed TagSign) s e = not_end _ x s.2.is refl e
-end_sort h l x (Placed (BlockSign literal)) s e = not_end _ x s.2.is refl e
-end_sort h l x (Placed (QuoteSign single)) s e = not_end _ x s.2.is refl e
-end_sort h l x (Placed PlainSign) s e = not_end _ x s.2.is refl e
-end_sort h l x (Placed StrayMark) s e = absurd s
-end_sort h l x (Placed NoSign) s e = absurd s
 
 end_alone : (o : OptionsData) (ends : Bool) (h : Here) (l : Laid) (items : List Item) (after : ReaderState)
     → GivenOne o ends TextEnd h l items after → Alone items

@@ -1,9 +1,11 @@
 -- What one turn gives between documents and among directives: comments alone, or first what is none.
-use Rattle.std.proofs.Common.{◌≡◌, ◌⊎◌, inl, inr, ℕ, ◌==◌, Bool, true, false, List, [], ◌∷◌, Option, Some, None, Result}
+use Rattle.std.proofs.Common.{◌≡◌, ◌⊎◌, inl, inr, ℕ, ◌==◌, Bool, true, false, List, [], ◌∷◌, Option, Some, None}
 use Rattle.std.proofs.Common.{Ok, Err, refl, sym, subst}
 use Rattle.std.specs.Prelude.{if◌then◌else◌}
 use Rattle.granit_error.specs.FaultKind.{UnsupportedYamlMajorVersion}
 use Rattle.granit_error.specs.OptionsData.{OptionsData}
+use Rattle.granit_invariants.proofs.CommentLaws.{handed}
+use Rattle.granit_invariants.proofs.QuietStream.{bare_start_tells}
 use Rattle.granit_lexemes.specs.Comment.{CommentRead}
 use Rattle.granit_lexemes.specs.Lexeme as lexemes
 use Rattle.granit_lexemes.specs.Lexeme.{DirectiveKind, Version, TagPrefix, Reserved, LexemeKind, Item, OfLexeme}
@@ -11,6 +13,7 @@ use Rattle.granit_lexemes.specs.Lexeme.{OfComment}
 use Rattle.granit_lexemes.specs.Outcome.{Fault, ◌>>=◌}
 use Rattle.granit_lexemes.specs.Pieces.{pieces, turns}
 use Rattle.granit_lexemes.specs.PlainEvent.{DocumentStart, event_at, PlainEvent, PlainVersion}
+use Rattle.granit_machine.proofs.ClosingLemmas.{FeedGiven}
 use Rattle.granit_machine.specs.Closing.{close_turn}
 use Rattle.granit_machine.specs.Entries.{lookup_text}
 use Rattle.granit_machine.specs.Frames.{Directives, Inside, ParserState, Root}
@@ -21,8 +24,9 @@ use Rattle.granit_machine.specs.Parser.{feed, take_item, take_tail}
 use Rattle.granit_machine.specs.Reader.{lex_turn, LexTurn}
 use Rattle.granit_machine.specs.StreamSteps.{bare_start, begin_document, behind_directives, open_document, when_fresh}
 use Rattle.granit_machine.specs.StreamSteps.{with_directive, with_handle, with_version, without_directives}
-use Rattle.granit_machine.specs.TokenSort.{begins_node, BeginsNode, Token, token_of, TokenSort}
-use Rattle.granit_restart.proofs.StartLemmas.{node_starts, step_if, step_then, StepStarts, tail_starts}
+use Rattle.granit_machine.specs.TokenSort.{Token, token_of}
+use Rattle.granit_restart.proofs.LookLaws.{document_starts}
+use Rattle.granit_restart.proofs.StartLemmas.{step_then, StepStarts, tail_starts}
 use Rattle.granit_restart.specs.Ahead.{is_note}
 use Rattle.granit_restart.specs.Looking.{outer, Outside}
 use Rattle.granit_steps.specs.Steps.{front_turn, line_behind, may_go, read_more, read_unless, step_turn, StepState}
@@ -48,16 +52,9 @@ pub data Heads (es : List PlainEvent) (q : ParserState) : Type 0 where
   heads_among : Among q → OneNote es → Heads es q
   heads_start : (e : PlainEvent) (rest : List PlainEvent) → es ≡ e ∷ rest → is_note e.kind ≡ false → Heads es q
 
-abbrev FeedGiven : Type 0
-FeedGiven = Result (List PlainEvent × ParserState) Fault
-
 abbrev FedHeads : FeedGiven → Type 0
 FedHeads (Ok x) = Heads x.0 x.1
 FedHeads (Err f) = Unit {0}
-
--- what a step hands out
-abbrev handed : Stepped → FeedGiven
-handed r = r >>= λ q. Ok (q.given, record q { given = [] })
 
 -- ---- directives
 
@@ -115,16 +112,6 @@ opened t tail next v p =
     start_heads e (take_tail lexemes.DocumentStart tail next s) refl
     (tail_starts e lexemes.DocumentStart tail next s (record { rest = []; first = refl }))
 
-bare_other : (sort : TokenSort) (t : Token) → is_note (bare_start sort t).kind ≡ false
-bare_other BeginsNode t = refl
-bare_other sort t = refl
-
-begun : (o : OptionsData) (t : Token) (p : ParserState)
-    → StepStarts (bare_start t.sort t) (begin_document o t (outer p))
-begun o t p =
-    let e = bare_start t.sort t in
-    step_if e (begins_node t.sort) _ _ (node_starts e o t _ (record { rest = []; first = refl })) tt
-
 -- ---- an item among directives
 
 kind_heads : (o : OptionsData) (kind : LexemeKind) (t : Token) (tail : Option CommentRead) (next : Option ℕ)
@@ -181,8 +168,8 @@ kind_outer o kind t tail next p =
     let e = bare_start t.sort t in
     let r = begin_document o t (outer p) in
     heads_outer (handed (r >>= take_tail kind tail next))
-    (start_heads e (r >>= take_tail kind tail next) (bare_other t.sort t)
-    (step_then e r (take_tail kind tail next) (begun o t p) (λ q s. tail_starts e kind tail next q s)))
+    (start_heads e (r >>= take_tail kind tail next) (bare_start_tells t.sort t)
+    (step_then e r (take_tail kind tail next) (document_starts o t p) (λ q s. tail_starts e kind tail next q s)))
 
 item_outer : (o : OptionsData) (i : Item) (b : Bool) (next : Option ℕ) (p : ParserState)
     → FedOuter (handed (take_item o i b next (outer p)))

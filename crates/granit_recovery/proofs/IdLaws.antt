@@ -452,7 +452,7 @@ anew_if false o stops extra c d f follows fault over e =
     (subst (λ g. Ids (Anew c.steps.parser.count) (skipped_by o stops g c.between c.steps)) (sym fault)
     (fault_skipped (Anew c.steps.parser.count) o stops f c.steps (omega arith, omega arith))))
 
-or_some : (a c : Bool) → ((a || true) || c) ≡ true
+pub or_some : (a c : Bool) → ((a || true) || c) ≡ true
 or_some true c = refl
 or_some false c = refl
 

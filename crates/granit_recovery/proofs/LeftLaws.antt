@@ -2,6 +2,7 @@
 use Rattle.std.proofs.Common.{◌≡◌, ℕ, zero, suc, ◌+◌, ◌<◌, ◌&&◌, ◌||◌, ◌⊎◌, inl, inr, is_some, Bool, true, false}
 use Rattle.std.proofs.Common.{List, [], ◌∷◌}
 use Rattle.std.proofs.Common.{◌++◌, Option, Some, None, Result, Ok, Err, refl, sym, ap, subst, ◌∙◌, arith}
+use Rattle.std.proofs.lemmas.Bool.{or_right, or_parts}
 use Rattle.std.specs.Prelude.{if◌then◌else◌}
 use Rattle.granit_error.specs.OptionsData.{OptionsData}
 use Rattle.granit_lexemes.specs.Here.{Here}
@@ -16,7 +17,7 @@ use Rattle.granit_recovery.proofs.RecoveryLaws.{call_known, CallsKnown, looked_k
 use Rattle.granit_recovery.proofs.RecoveryLaws.{reached_known}
 use Rattle.granit_recovery.proofs.RestLaws.{early_known}
 use Rattle.granit_recovery.proofs.SkipLaws.{Known, known_along, known_start, restart_along, start_ahead}
-use Rattle.granit_recovery.proofs.TurnLaws.{Along, along_end, along_stream, has_end, step_along, TurnAlong}
+use Rattle.granit_recovery.proofs.TurnLaws.{Along, along_end, along_stream, step_along, TurnAlong}
 use Rattle.granit_recovery.specs.Streams.{EarlyOf, not_early, ReachedByCalls, reached_call, reached_counting}
 use Rattle.granit_recovery.specs.Streams.{reached_early, reached_keeping, reached_recovery, reached_start, turn_early}
 use Rattle.granit_restart.proofs.AheadLaws.{one, OneTurn}
@@ -34,10 +35,11 @@ use Rattle.granit_restart.specs.Skipping.{ahead_by, restarted, skip_by_turns, sk
 use Rattle.granit_restart.specs.Skipping.{skipped_fault, skipped_to, skip_turn, Stops, with_pending}
 use Rattle.granit_steps.proofs.Nesting.{levels_of}
 use Rattle.granit_steps.proofs.StepLaws.{step_turn-Shortens}
+use Rattle.granit_steps.proofs.StreamLaws.{has_end}
 use Rattle.granit_steps.specs.Levels.{InStream, Level}
 use Rattle.granit_steps.specs.Steps.{next_event}
 use Rattle.granit_steps.specs.Steps.{StepState, step_size, step_turn, Turn}
-use Rattle.granit_recovery.proofs.LeftTurns.{ends_in, ends_stream, failing_left, Left, next_left, NextLeft, or_true}
+use Rattle.granit_recovery.proofs.LeftTurns.{ends_in, ends_stream, failing_left, Left, next_left, NextLeft}
 use Rattle.granit_recovery.proofs.LeftTurns.{rest_left, some_event, step_left, TurnLeft}
 
 -- ---- skipping
@@ -198,15 +200,11 @@ given_left o c (Ok (Some e, t)) next fails left = noted_left e.kind (record c { 
 given_left o c (Ok (None, t)) next fails left = left
 given_left o c (Err f) next fails left = λ over. fails
 
-first_false : (a b d : Bool) → ((a || b) || d) ≡ false → a ≡ false
-first_false true b d e = e
-first_false false b d e = refl
-
 call_left_by : (b : Bool) (o : OptionsData) (c : Calls) → ((c.over || is_some c.fault) || is_some c.refusal) ≡ b
     → Known c.steps → CallsLeft c → CallsLeft (if b then (None, c) else given_by o c (next_event o c.steps)).1
 call_left_by true o c is k left = left
 call_left_by false o c is k left =
-    let there = left (first_false c.over (is_some c.fault) (is_some c.refusal) is) in
+    let there = left ((or_parts c.over _ (or_parts _ _ is).0).0) in
     given_left o c (next_event o c.steps) (next_left o c.steps k there) (failing_left o c.steps k there) left
 
 call_left : (o : OptionsData) (c : Calls) → Known c.steps → CallsLeft c → CallsLeft (next_call o c).1
@@ -287,7 +285,7 @@ ends_before_more (x ∷ xs) ys e =
 
 ends_behind : (xs ys : List PlainEvent) → ends_in ys ≡ true → ends_in (xs ++ ys) ≡ true
 ends_behind [] ys e = e
-ends_behind (x ∷ xs) ys e = or_true (ends_stream x.kind) (ends_in (xs ++ ys)) (ends_behind xs ys e)
+ends_behind (x ∷ xs) ys e = or_right (ends_stream x.kind) (ends_in (xs ++ ys)) (ends_behind xs ys e)
 
 one_left : (o : OptionsData) (s t : StepState) → OneTurn o s t → Known s → Left s → Left t
 one_left o s t x k left = subst Left (sym x.is) (λ ended. by s.reading.ended refl ended)

@@ -22,7 +22,7 @@ use Rattle.granit_recovery.proofs.RecoveryLaws.{failing_waits, first_same}
 use Rattle.granit_recovery.proofs.RecoveryLaws.{second_same}
 use Rattle.granit_recovery.proofs.RestLaws.{queue_none}
 use Rattle.granit_recovery.proofs.SkipLaws.{Known, known_along, known_start}
-use Rattle.granit_recovery.proofs.TurnLaws.{Along, along_end, along_stream, has_end, OnlyComments, step_along}
+use Rattle.granit_recovery.proofs.TurnLaws.{Along, along_end, along_stream, step_along}
 use Rattle.granit_recovery.proofs.TurnLaws.{TurnAlong}
 use Rattle.granit_restart.proofs.AheadLaws.{one, waits_next}
 use Rattle.granit_restart.proofs.MarkLaws.{items, pushed_items}
@@ -30,6 +30,7 @@ use Rattle.granit_restart.specs.Calls.{failing, failing_by, failing_in}
 use Rattle.granit_restart.specs.Skipping.{with_pending}
 use Rattle.granit_steps.proofs.Nesting.{levels_of}
 use Rattle.granit_steps.proofs.StepLaws.{step_turn-Shortens}
+use Rattle.granit_steps.proofs.StreamLaws.{OnlyComments, has_end, end_behind}
 use Rattle.granit_steps.proofs.StreamNesting.{Fed, feed_fed, is_end_item}
 use Rattle.granit_steps.specs.Levels.{behind_event, behind_events, document_begins, InStream, Level, node_begun}
 use Rattle.granit_steps.specs.Levels.{BeforeNode, BehindNode, InMapping, InSequence, mapping_ends, node_done}
@@ -141,10 +142,6 @@ abbrev pub TurnLeft : Turn → Type 0
 TurnLeft (Ok x) = Left x.1
 TurnLeft (Err f) = Unit {0}
 
-pub or_true : (a b : Bool) → b ≡ true → (a || b) ≡ true
-or_true true b e = refl
-or_true false b e = e
-
 lexeme_comes : (b : Bool) (l : Lexeme) (is : List Item) → is_end_kind l.kind ≡ true
     → has_end (incoming b (OfLexeme l ∷ is)) ≡ true
 lexeme_comes true l is e = ap (λ c. c || has_end is) e
@@ -154,10 +151,6 @@ end_comes : (b : Bool) (is : List Item) → is_end is ≡ true → has_end (inco
 end_comes b [] e = absurd (cc)
 end_comes b (OfLexeme l ∷ is) e = lexeme_comes b l is e
 end_comes b (OfComment c ∷ is) e = absurd (cc)
-
-end_behind : (xs ys : List Item) → has_end ys ≡ true → has_end (xs ++ ys) ≡ true
-end_behind [] ys e = e
-end_behind (x ∷ xs) ys e = or_true (is_end_item x) (has_end (xs ++ ys)) (end_behind xs ys e)
 
 read_left : (o : OptionsData) (s : StepState) (r : Read)
     → TurnLeft (behind_read r s.reading.reader >>= λ x. Ok (Some [], with_read o s x))

@@ -21,7 +21,7 @@ pub mod RecoveryLaws
 pub mod RestLaws
 mod SeatLaws
 mod SeatSteps
-mod SkipLaws
+pub mod SkipLaws
 pub mod TidyLaws
 mod ToldLaws
 pub mod TurnLaws

@@ -1,6 +1,6 @@
 -- The end of a document, or of the stream, is never refused for want of a document's start within a document.
 use Rattle.std.proofs.Common.{◌≡◌, ℕ, ◌-◌, ◌++◌, ◌==◌, Bool, true, false, List, [], ◌∷◌, Option, Some}
-use Rattle.std.proofs.Common.{None, Result, Ok, Err, refl, sym, ap, subst, ◌∙◌}
+use Rattle.std.proofs.Common.{None, Ok, Err, refl, sym, ap, subst, ◌∙◌}
 use Rattle.std.specs.Prelude.{if◌then◌else◌, is_none, nat_le}
 use Rattle.granit_base.specs.Place.{Mark}
 use Rattle.granit_base.specs.Written.{Written}
@@ -10,11 +10,11 @@ use Rattle.granit_lexemes.specs.Basics.{fails_at}
 use Rattle.granit_lexemes.specs.Comment.{CommentRead}
 use Rattle.granit_lexemes.specs.Lexeme as lexemes
 use Rattle.granit_lexemes.specs.Lexeme.{KeyStart, LexemeKind, Lexeme, Item, OfLexeme, OfComment}
-use Rattle.granit_lexemes.specs.Outcome.{Fault, ◌>>=◌}
+use Rattle.granit_lexemes.specs.Outcome.{◌>>=◌}
 use Rattle.granit_lexemes.specs.Pieces.{with_front, pieces}
 use Rattle.granit_lexemes.specs.PlainEvent.{PlainEvent, PlainTag, EventKind, event_at, Anchor, Comment}
 use Rattle.granit_lexemes.specs.Source.{Source}
-use Rattle.granit_machine.proofs.ClosingLemmas.{close_turn-Shortens}
+use Rattle.granit_machine.proofs.ClosingLemmas.{close_turn-Shortens, FeedGiven}
 use Rattle.granit_machine.specs.BlockSteps.{behind_indicator, in_mapping, in_sequence}
 use Rattle.granit_machine.specs.Closing.{close, close_turn, depth, end_top, ends_top, token_start}
 use Rattle.granit_machine.specs.FlowSteps.{in_flow_mapping_by, in_flow_pair, in_flow_sequence}
@@ -39,6 +39,9 @@ use Rattle.granit_restart.specs.Header.{is_start_expected}
 use Rattle.granit_restart.specs.Skipping.{is_within_document}
 use Rattle.granit_scalars.proofs.Turning.{Carries, pieces_hold}
 use Rattle.granit_steps.proofs.Nesting.{Fine}
+
+abbrev pub end_token : Lexeme → Token
+end_token l = record { lexeme = l; sort = OfStream }
 
 -- whether it is the mark or the end that ends a document
 abbrev pub ends_document : LexemeKind → Bool
@@ -80,35 +83,31 @@ bare_not o kind t p e = absurd (cc)
 
 -- ---- in frames
 
--- the token of such a lexeme
-abbrev mark_token : Lexeme → Token
-mark_token l = record { lexeme = l; sort = OfStream }
-
 sequence_not : (o : OptionsData) (l : Lexeme) (column : ℕ) (indentless : Bool) (p : ParserState)
-    → NotStart (in_sequence o (mark_token l) column indentless p)
+    → NotStart (in_sequence o (end_token l) column indentless p)
 unfolding in_sequence
 sequence_not o l column indentless p = not_if (is_none p.waiting) _ _ refl refl
 
 mapping_not : (o : OptionsData) (l : Lexeme) (column : ℕ) (stage : PairStage) (p : ParserState)
-    → NotStart (in_mapping o (mark_token l) column stage p)
+    → NotStart (in_mapping o (end_token l) column stage p)
 unfolding behind_indicator
 mapping_not o l column AtKey p = refl
 mapping_not o l column BehindKey p = refl
 mapping_not o l column stage p = refl
 
 flow_not : (o : OptionsData) (l : Lexeme) (behind : Bool) (p : ParserState)
-    → NotStart (in_flow_sequence o (mark_token l) behind p)
+    → NotStart (in_flow_sequence o (end_token l) behind p)
 flow_not o l true p = refl
 flow_not o l false p = refl
 
 flow_mapping_not : (o : OptionsData) (l : Lexeme) (single : Bool) (stage : PairStage) (p : ParserState)
-    → NotStart (in_flow_mapping_by o (mark_token l) single stage OfStream p)
+    → NotStart (in_flow_mapping_by o (end_token l) single stage OfStream p)
 flow_mapping_not o l single AtKey p = refl
 flow_mapping_not o l single BehindKey p = refl
 flow_mapping_not o l single stage p = refl
 
 flow_pair_not : (o : OptionsData) (l : Lexeme) (stage : PairStage) (p : ParserState)
-    → NotStart (in_flow_pair o (mark_token l) stage OfStream p)
+    → NotStart (in_flow_pair o (end_token l) stage OfStream p)
 flow_pair_not o l BehindQuestion p = tt
 flow_pair_not o l stage p = refl
 
@@ -119,18 +118,18 @@ behind_root_not lexemes.StreamEnd t p e = tt
 behind_root_not kind t p e = absurd (cc)
 
 outside_not : (o : OptionsData) (stage : DocumentStage) (l : Lexeme) (p : ParserState) → ends_document l.kind ≡ true
-    → IsOuter stage → is_within_document stage ≡ true → NotStart (outside o stage (mark_token l) p)
-outside_not o BehindRoot l p e outer within = behind_root_not l.kind (mark_token l) p e
+    → IsOuter stage → is_within_document stage ≡ true → NotStart (outside o stage (end_token l) p)
+outside_not o BehindRoot l p e outer within = behind_root_not l.kind (end_token l) p e
 outside_not o Inside l p e outer within = absurd outer
 outside_not o Fresh l p e outer within = absurd (cc)
 outside_not o (Directives version) l p e outer within = absurd (cc)
 outside_not o Between l p e outer within = absurd (cc)
 
 take_not : (o : OptionsData) (fs : List Frame) (l : Lexeme) (p : ParserState) → ends_document l.kind ≡ true
-    → SitsBy fs p.stage → is_within_document p.stage ≡ true → NotStart (take_in o fs (mark_token l) p)
+    → SitsBy fs p.stage → is_within_document p.stage ≡ true → NotStart (take_in o fs (end_token l) p)
 take_not o [] l p e sits within = outside_not o p.stage l p e sits within
 take_not o (Root explicit ∷ fs) l p e sits within = refl
-take_not o (WithProperties q ∷ fs) l p e sits within = bare_not o l.kind (mark_token l) p e
+take_not o (WithProperties q ∷ fs) l p e sits within = bare_not o l.kind (end_token l) p e
 take_not o (BlockSequence column indentless ∷ fs) l p e sits within = sequence_not o l column indentless p
 take_not o (BlockMapping column stage ∷ fs) l p e sits within = mapping_not o l column stage p
 take_not o (FlowSequence behind ∷ fs) l p e sits within = flow_not o l behind p
@@ -215,9 +214,6 @@ end_top_within o t p (Root explicit ∷ fs) e =
 end_top_within o t p (WithProperties q ∷ fs) e = end_properties_within o q p e
 end_top_within o t p fs e = end_node_within t.lexeme.start (token_start t) p e
 
-abbrev FeedGiven : Type 0
-FeedGiven = Result (List PlainEvent × ParserState) Fault
-
 -- closing fails nowhere, and stays in the document or behind its root
 abbrev StaysWithin : ParserState → FeedGiven → Type 0
 StaysWithin p (Ok x) =
@@ -245,7 +241,7 @@ close_turn_within o t p = turn_within o t p (ends_top t p p.frames) refl
 
 closed_not : (o : OptionsData) (l : Lexeme) (p : ParserState) (r : FeedGiven) → StaysWithin p r
     → ends_document l.kind ≡ true → Fine p.frames → Sits p → is_within_document p.stage ≡ true
-    → NotStart ((r >>= λ x. Ok x.1) >>= take_token o (mark_token l))
+    → NotStart ((r >>= λ x. Ok x.1) >>= take_token o (end_token l))
 closed_not o l p (Ok x) h e fine sits within =
     let y = h fine sits within in take_not o x.1.frames l x.1 e y.1 y.2
 closed_not o l p (Err f) h e fine sits within = absurd h
@@ -283,10 +279,10 @@ item_not o (OfComment c) b next p e fine sits within =
     hold_not c (event_at (Comment c.text (placed c next)) c.source) p.waiting p
 item_not o (OfLexeme l) b next p e fine sits within =
     subst (λ s. NotStart (take_item_with s)) (sym (of_stream b l.key l.kind e))
-    (behind_not l.kind l.tail next (close o (mark_token l) p >>= take_token o (mark_token l))
-    (closed_not o l p (pieces depth (close_turn o (mark_token l)) p)
-    (pieces_hold StaysWithin depth (close_turn o (mark_token l)) (close_turn-Shortens o (mark_token l))
-    (close_turn_within o (mark_token l)) p) e fine sits within))
+    (behind_not l.kind l.tail next (close o (end_token l) p >>= take_token o (end_token l))
+    (closed_not o l p (pieces depth (close_turn o (end_token l)) p)
+    (pieces_hold StaysWithin depth (close_turn o (end_token l)) (close_turn-Shortens o (end_token l))
+    (close_turn_within o (end_token l)) p) e fine sits within))
   where
     take_item_with : TokenSort → Stepped
     take_item_with s =

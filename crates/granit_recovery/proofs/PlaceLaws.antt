@@ -1,31 +1,24 @@
 -- Places stay counted over what is dropped.
 use Rattle.std.proofs.Common.{◌≡◌, ℕ, zero, suc, Bool, true, false, ◌&&◌, ◌==◌, List, [], ◌∷◌, length, refl, sym, ap}
-use Rattle.std.proofs.Common.{◌∙◌, arith, subst}
+use Rattle.std.proofs.Common.{◌∙◌, subst}
+use Rattle.std.proofs.lemmas.Bool.{and_parts}
 use Rattle.std.specs.Prelude.{if◌then◌else◌}
-use Rattle.std.proofs.lemmas.Bool.Decides.{nat_tests}
 use Rattle.granit_base.specs.Classes.{is_bom}
 use Rattle.granit_base.specs.Place.{first}
+use Rattle.granit_lexemes.proofs.CharTests.{bom_is}
+use Rattle.granit_lexemes.proofs.HereLemmas.{stays_at_end}
 use Rattle.granit_lexemes.specs.Here.{Here, mid_line, next_char, step}
 use Rattle.granit_lexemes.specs.Moves.{past_prefix_mark, steps}
 use Rattle.granit_lexemes.specs.Onward.{Onward, there, stepped, over_mark, begun}
 use Rattle.granit_reading.proofs.Counting.{stepped_on, marked_on}
-use Rattle.granit_steps.proofs.Futures.{and_right}
 use Rattle.granit_restart.proofs.BoundaryLaws.{finds_next}
 use Rattle.granit_restart.specs.Boundary.{Boundary, over_dropped, next_boundary}
 use Rattle.granit_recovery.specs.BoundaryPlace.{boundary_place, IsCounted}
 use Rattle.granit_restart.specs.NextBoundary.{BoundaryStands, stands_start, stands_end, stands_text_end, NextBoundary}
 use Rattle.granit_restart.specs.NextBoundary.{next_here, next_behind}
 
-if_true : (b : Bool) (g h : Here) → b ≡ true → (if b then g else h) ≡ g
-if_true true g h e = refl
-if_true false g h e = absurd (cc)
-
-empty_step : (h : Here) → h.unread.text ≡ [] → step h ≡ h
-unfolding step
-empty_step h e = if_true (length h.unread.text == 0) h _ (ap (λ (t : List ℕ). length t == 0) e)
-
 counted_by : (x text : List ℕ) (h : Here) → h.unread.text ≡ text → IsCounted x h → IsCounted x (step h)
-counted_by x [] h e c = subst (IsCounted x) (sym (empty_step h e)) c
+counted_by x [] h e c = subst (IsCounted x) (sym (stays_at_end h e)) c
 counted_by x (d ∷ t) h e c = record {
   index = suc c.index;
   marks = c.marks;
@@ -39,10 +32,6 @@ counted_steps : (x : List ℕ) (n : ℕ) (h : Here) → IsCounted x h → IsCoun
 unfolding steps
 counted_steps x zero h c = c
 counted_steps x (suc n) h c = counted_steps x n (step h) (counted_step x h c)
-
-bom_is : (c : ℕ) → is_bom c ≡ true → c ≡ 0xFEFF
-unfolding is_bom
-bom_is c e = grind (arith, nat_tests)
 
 marked_by : (x text : List ℕ) (h : Here) → h.unread.text ≡ text → next_char h ≡ 0xFEFF → IsCounted x h
     → IsCounted x (past_prefix_mark h)
@@ -58,7 +47,8 @@ marked_by x (d ∷ t) h e bom c =
 dropped_by : (b : Bool) (x : List ℕ) (h : Here) → (h.place.column == 0 && is_bom (next_char h)) ≡ b → IsCounted x h
     → IsCounted x (if b then past_prefix_mark h else step h)
 dropped_by true x h e c =
-    marked_by x h.unread.text h refl (bom_is (next_char h) (and_right (h.place.column == 0) (is_bom (next_char h)) e)) c
+    marked_by x h.unread.text h refl
+    (bom_is (next_char h) (and_parts (h.place.column == 0) (is_bom (next_char h)) e).1) c
 dropped_by false x h e c = counted_step x h c
 
 stands_counted : (x : List ℕ) (h : Here) (b : Boundary) → BoundaryStands h b → IsCounted x h

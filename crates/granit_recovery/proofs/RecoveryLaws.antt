@@ -1,6 +1,8 @@
 -- What recovery leaves: a stream goes on, ids aren't given again, and a refusal stays.
 use Rattle.std.proofs.Common.{◌≡◌, ℕ, zero, suc, ◌+◌, Bool, true, false, ◌||◌, ◌⊎◌, inl, inr, List, [], ◌∷◌, Option}
 use Rattle.std.proofs.Common.{Some, None, is_some, Result, Ok, Err, refl, sym, ap, subst, ◌∙◌}
+use Rattle.std.proofs.Math.Bool.{or-true}
+use Rattle.std.proofs.lemmas.Bool.{or_parts}
 use Rattle.std.specs.Prelude.{if◌then◌else◌}
 use Rattle.granit_error.specs.OptionsData.{OptionsData}
 use Rattle.granit_lexemes.specs.Here.{mark_of, start_of}
@@ -27,8 +29,9 @@ use Rattle.granit_restart.specs.Skipping.{Stops, with_pending}
 use Rattle.granit_recovery.specs.Streams.{GoesOnBalanced, CallsGive, gives_none, gives_next, ReachedByCalls}
 use Rattle.granit_recovery.specs.Streams.{reached_start, reached_call, EarlyOf, reached_counting, reached_early}
 use Rattle.granit_recovery.specs.Streams.{reached_keeping, reached_recovery}
+use Rattle.granit_steps.proofs.StepLaws.{turn_waits_on}
 use Rattle.granit_steps.specs.Levels.{Level, InStream, and_then, behind_event, behind_events}
-use Rattle.granit_steps.specs.Steps.{StepState, step_turn, step_size, next_event, turn_by}
+use Rattle.granit_steps.specs.Steps.{StepState, step_size, next_event}
 
 -- ---- one event
 
@@ -57,16 +60,10 @@ next_known : (o : OptionsData) (s : StepState) → Known s → NextKnown (next_e
 next_known o s (known_start e es kind waits a) = start_next o s e es kind waits a
 next_known o s (known_along {ls = ls} p a) = told_known ls (next_event o s) p (next_along o ls s a)
 
--- where an event waits no turn fails
-waits_turn : (o : OptionsData) (s : StepState) (e : PlainEvent) (es : List PlainEvent) → s.pending ≡ e ∷ es
-    → step_turn o s ≡ Ok (None, s)
-unfolding step_turn
-waits_turn o s e es waits = ap (λ xs. turn_by o xs s.queue s) waits
-
 pub failing_waits : (o : OptionsData) (n : ℕ) (s : StepState) (e : PlainEvent) (es : List PlainEvent)
     → s.pending ≡ e ∷ es → failing_in o n s ≡ s
 failing_waits o zero s e es waits = refl
-failing_waits o (suc n) s e es waits = ap (failing_by (failing_in o n) s) (waits_turn o s e es waits)
+failing_waits o (suc n) s e es waits = ap (failing_by (failing_in o n) s) (turn_waits_on o s e es waits)
 
 failing_known : (o : OptionsData) (s : StepState) → Known s → Known (failing o s)
 failing_known o s (known_start e es kind waits a) =
@@ -135,7 +132,7 @@ noted_steps DocumentEnd c = refl
 noted_steps StreamEnd c = refl
 noted_steps kind c = refl
 
-noted_fault : (kind : EventKind) (c : Calls) → (noted kind c).fault ≡ c.fault
+pub noted_fault : (kind : EventKind) (c : Calls) → (noted kind c).fault ≡ c.fault
 noted_fault (DocumentStart explicit version) c = refl
 noted_fault DocumentEnd c = refl
 noted_fault StreamEnd c = refl
@@ -284,16 +281,12 @@ called_of o c after e (Ok (Some x, t)) is going g =
 called_of o c after e (Ok (None, t)) is going g = absurd (let f = first_same _ _ g in cc)
 called_of o c after e (Err f) is going g = absurd (let f = first_same _ _ g in cc)
 
-not_left : (a b c : Bool) → ((a || b) || c) ≡ false → a ≡ false
-not_left true b c e = e
-not_left false b c e = refl
-
 called_by : (b : Bool) (o : OptionsData) (c after : Calls) (e : PlainEvent)
     → ((c.over || is_some c.fault) || is_some c.refusal) ≡ b
     → (if b then (None, c) else given_by o c (next_event o c.steps)) ≡ (Some (Ok e), after) → Called o c e after
 called_by true o c after e is g = absurd (let f = first_same _ _ g in cc)
 called_by false o c after e is g = called_of o c after e (next_event o c.steps) refl
-    (not_left c.over (is_some c.fault) (is_some c.refusal) is) g
+    ((or_parts c.over _ (or_parts _ _ is).0).0) g
 
 pub called : (o : OptionsData) (c after : Calls) (e : PlainEvent) → next_call o c ≡ (Some (Ok e), after)
     → Called o c e after
@@ -380,10 +373,6 @@ pub refused_again : (o : OptionsData) (stops later : Stops) (looked peeked : Boo
 refused_again o stops later looked peeked c d f e =
     refused_with o later peeked f d (refusal_left o stops looked c d f e)
 
-or_true : (b : Bool) → (b || true) ≡ true
-or_true true = refl
-or_true false = refl
-
 -- and no event follows it
 pub refused_none : (o : OptionsData) (stops : Stops) (looked : Bool) (c d : Calls) (f : Fault)
     → recover o stops looked c ≡ (Err f, d) → next_call o d ≡ (None, d)
@@ -391,4 +380,4 @@ unfolding next_call
 refused_none o stops looked c d f e =
     ap (λ b. if b then (None, d) else given_by o d (next_event o d.steps))
     (ap (λ r. (d.over || is_some d.fault) || is_some r) (refusal_left o stops looked c d f e)
-    ∙ or_true (d.over || is_some d.fault))
+    ∙ or-true (d.over || is_some d.fault))

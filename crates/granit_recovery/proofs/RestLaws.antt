@@ -17,7 +17,7 @@ use Rattle.granit_machine.specs.Reader.{lex_turn, LexTurn}
 use Rattle.granit_recovery.proofs.MarkRefusals.{comment_not, ends_document, EndsDocument, feed_not, FedNotStart}
 use Rattle.granit_recovery.proofs.SkipLaws.{comes_fault, comes_none, Known, known_along, known_start, Resumes}
 use Rattle.granit_recovery.proofs.SkipLaws.{resumes}
-use Rattle.granit_recovery.proofs.TurnLaws.{Along, along_end, along_stream, OnlyComments, step_along, TurnAlong}
+use Rattle.granit_recovery.proofs.TurnLaws.{Along, along_end, along_stream, step_along, TurnAlong}
 use Rattle.granit_recovery.specs.Streams.{EarlyOf, not_early, turn_early}
 use Rattle.granit_restart.proofs.AheadLaws.{given_in, one, OneTurn}
 use Rattle.granit_restart.proofs.LookLaws.{Asked, follows_says}
@@ -27,6 +27,7 @@ use Rattle.granit_restart.specs.Header.{is_directives, is_start_expected, parser
 use Rattle.granit_restart.specs.Skipping.{ends_before, is_within_document, with_pending}
 use Rattle.granit_restart.specs.Turned.{with_count}
 use Rattle.granit_steps.proofs.Nesting.{behind_append, levels_of}
+use Rattle.granit_steps.proofs.StreamLaws.{OnlyComments}
 use Rattle.granit_steps.specs.Levels.{and_then, behind_events, InStream, Level}
 use Rattle.granit_steps.specs.Steps.{asks_next, feed_front, front_turn, is_next_settled, line_behind, may_go, read_more}
 use Rattle.granit_steps.specs.Steps.{read_unless, StepState, step_turn, Turn, turn_by, with_fed, with_read}

@@ -1,21 +1,22 @@
 -- Where no node is open, a parser stands around documents, or behind a root.
 use Rattle.std.proofs.Common.{◌≡◌, ℕ, Bool, true, false, List, [], ◌∷◌, Option, Some, None, Result, Ok}
 use Rattle.std.proofs.Common.{Err, refl, sym, subst, ◌∙◌}
-use Rattle.std.proofs.Common.{◌&&◌, ◌||◌, not, ◌++◌}
+use Rattle.std.proofs.Common.{◌&&◌, ◌||◌, not}
 use Rattle.std.specs.Prelude.{if◌then◌else◌, is_none, nat_le}
 use Rattle.granit_base.specs.Place.{Mark}
 use Rattle.granit_base.specs.Written.{Written}
 use Rattle.granit_error.specs.FaultKind.{RecursionLimitExceeded}
 use Rattle.granit_error.specs.OptionsData.{OptionsData}
 use Rattle.granit_lexemes.specs.Basics.{fails_at}
-use Rattle.granit_lexemes.specs.Comment.{CommentRead}
 use Rattle.granit_lexemes.specs.Lexeme as lexemes
 use Rattle.granit_lexemes.specs.Lexeme.{LexemeKind}
 use Rattle.granit_lexemes.specs.Outcome.{Fault, ◌>>=◌}
-use Rattle.granit_lexemes.specs.PlainEvent.{PlainEvent, PlainTag, EventKind, event_at, Anchor}
+use Rattle.granit_lexemes.specs.PlainEvent.{PlainTag, EventKind}
 use Rattle.granit_lexemes.specs.Source.{Source}
 use Rattle.granit_lexemes.specs.declared.layout.Bracket.{Bracket}
 use Rattle.granit_lexemes.specs.declared.layout.Bracket.TheVariants.{Square, Curly}
+use Rattle.granit_machine.proofs.ClosingLemmas.{tail_frames, flush_frames}
+use Rattle.granit_machine.proofs.ClosingLemmas.{owed_in-frames, node_event-frames}
 use Rattle.granit_machine.specs.BlockSteps.{in_sequence, mapping_at, mapping_colon, bare_colon_in_mapping, next_pair}
 use Rattle.granit_machine.specs.BlockSteps.{behind_indicator, at_block_key, behind_block_key, in_mapping, takes_node}
 use Rattle.granit_machine.specs.Closing.{end_top, ends_top}
@@ -23,13 +24,13 @@ use Rattle.granit_machine.specs.Entries.{lookup_text}
 use Rattle.granit_machine.specs.FlowSteps.{close_flow, flow_at, flow_colon, begin_pair, at_entry, behind_entry_of}
 use Rattle.granit_machine.specs.FlowSteps.{in_flow_sequence, in_flow_mapping_by, in_flow_pair}
 use Rattle.granit_machine.specs.Frames.{PairStage, BeforePair, AtKey, BehindKey, AtQuestion, BehindQuestion, AtValue}
-use Rattle.granit_machine.specs.Frames.{BehindAlone, NodeProperties, Frame, Root, WithProperties}
+use Rattle.granit_machine.specs.Frames.{NodeProperties, Frame, Root, WithProperties}
 use Rattle.granit_machine.specs.Frames.{BlockSequence, BlockMapping, FlowSequence, FlowMapping, FlowPair}
-use Rattle.granit_machine.specs.Frames.{DocumentStage, Fresh, Directives, BehindRoot, Waiting}
+use Rattle.granit_machine.specs.Frames.{DocumentStage, Fresh, Directives, BehindRoot}
 use Rattle.granit_machine.specs.Frames.{ParserState}
-use Rattle.granit_machine.specs.Giving.{null_at, flush_held, flush, give, put, empty_by, give_empty, below_properties}
-use Rattle.granit_machine.specs.Giving.{properties_on, tell_anchor, node_event, with_indent}
-use Rattle.granit_machine.specs.NodeEnds.{finish_in, finish, owed_in, owed, below, end_node, end_properties, begin}
+use Rattle.granit_machine.specs.Giving.{null_at, flush, give, give_empty, below_properties}
+use Rattle.granit_machine.specs.Giving.{node_event}
+use Rattle.granit_machine.specs.NodeEnds.{finish_in, finish, owed, below, end_node, end_properties, begin}
 use Rattle.granit_machine.specs.NodeEnds.{begin_block, block_mapping, waits, may_be_indentless, null_node}
 use Rattle.granit_machine.specs.NodeEnds.{empty_span, block_count}
 use Rattle.granit_machine.specs.NodeSteps.{Stepped, alias_by, tag_prefix, block_sequence, DashRole}
@@ -93,58 +94,8 @@ sits_then (Err e) f more = tt
 
 -- ---- frames stay
 
-flush_by : (w : Option Waiting) (p : ParserState) → (flush_held w p).frames ≡ p.frames
-flush_by None p = refl
-flush_by (Some w) p = refl
-
-flush_frames : (p : ParserState) → (flush p).frames ≡ p.frames
-flush_frames p = flush_by p.waiting p
-
-empty_frames_by : (w : Option Waiting) (p : ParserState) → (empty_by w p).frames ≡ p.frames
-empty_frames_by None p = refl
-empty_frames_by (Some w) p = flush_frames (put (null_at w.at) p)
-
-empty_frames : (p : ParserState) → (give_empty p).frames ≡ p.frames
-empty_frames p = empty_frames_by p.waiting p
-
-two_frames : (d e : PlainEvent) (p : ParserState) → (give d (give e p)).frames ≡ p.frames
-two_frames d e p = flush_frames (give e p) ∙ flush_frames p
-
-owed_by : (fs : List Frame) (x : Mark) (p : ParserState) → (owed_in fs x p).frames ≡ p.frames
-owed_by [] x p = refl
-owed_by (BlockSequence column indentless ∷ fs) x p = empty_frames p
-owed_by (BlockMapping column AtValue ∷ fs) x p = empty_frames p
-owed_by (FlowMapping single AtValue ∷ fs) x p = empty_frames p
-owed_by (BlockMapping column AtQuestion ∷ fs) x p = two_frames (null_at x) (with_indent (Some column) (null_at x)) p
-owed_by (FlowMapping single AtQuestion ∷ fs) x p = two_frames (null_at x) (null_at x) p
-owed_by (FlowPair AtQuestion ∷ fs) x p = two_frames (null_at x) (null_at x) p
-owed_by (BlockMapping column BehindQuestion ∷ fs) x p = flush_frames p
-owed_by (FlowMapping single BehindQuestion ∷ fs) x p = flush_frames p
-owed_by (FlowMapping single BehindAlone ∷ fs) x p = flush_frames p
-owed_by (FlowPair BehindQuestion ∷ fs) x p = flush_frames p
-owed_by (FlowPair AtValue ∷ fs) x p = flush_frames p
-owed_by fs x p = refl
-
 owed_frames : (x : Mark) (p : ParserState) → (owed x p).frames ≡ p.frames
-owed_frames x p = owed_by p.frames x p
-
-anchor_frames : (o : OptionsData) (a : Option (ℕ × Written × Source)) (p : ParserState)
-    → (tell_anchor o a p).frames ≡ p.frames
-anchor_frames o None p = refl
-anchor_frames o (Some a) p = on o.emit_anchor_events
-  where
-    on : (b : Bool) → (if b then record p {
-      given = p.given ++ event_at (Anchor a.0 a.1) a.2 ∷ [];
-    } else p).frames ≡ p.frames
-    on true = refl
-    on false = refl
-
-event_frames : (o : OptionsData) (kind : ℕ → Option PlainTag → EventKind) (source : Source) (indent : Option ℕ)
-    (p : ParserState) → (node_event o kind source indent p).frames ≡ below_properties p.frames
-unfolding node_event
-event_frames o kind source indent p =
-    let q = properties_on p.frames source.end in
-    anchor_frames o q.anchor _ ∙ flush_frames (record p { frames = below_properties p.frames })
+owed_frames x p = owed_in-frames p.frames x p
 
 -- ---- a node ends
 
@@ -174,7 +125,8 @@ rooted_below (FlowPair stage ∷ fs) r = r
 leaf_sits : (o : OptionsData) (kind : ℕ → Option PlainTag → EventKind) (source : Source) (indent : Option ℕ)
     (p : ParserState) → Rooted p.frames → Sits (finish (node_event o kind source indent p))
 leaf_sits o kind source indent p r =
-    finish_sits (node_event o kind source indent p) (below_properties p.frames) (event_frames o kind source indent p)
+    finish_sits (node_event o kind source indent p) (below_properties p.frames)
+    (node_event-frames o kind source indent p)
     (rooted_below p.frames r)
 
 -- the frames below the one on top have a root
@@ -193,10 +145,6 @@ unfolding end_properties
 end_properties_sits o q p r = leaf_sits o (null_node q) (empty_span q.end) None p r
 
 -- ---- a node begins
-
-tail_frames : (tail : Option CommentRead) (p : ParserState) → (give_tail tail p).frames ≡ p.frames
-tail_frames None p = refl
-tail_frames (Some c) p = flush_frames p
 
 waits_sits : (m : Mark) (room : ℕ) (p : ParserState) (f : Frame) (fs : List Frame) → p.frames ≡ f ∷ fs
     → Sits (waits m room p)
@@ -221,7 +169,7 @@ block_tops o kind m column stage p r =
       BlockMapping column stage,
       q.frames,
       refl,
-      subst Rooted (sym (event_frames o kind (empty_span m) None p)) (rooted_below p.frames r),
+      subst Rooted (sym (node_event-frames o kind (empty_span m) None p)) (rooted_below p.frames r),
     )
 
 -- any frame on top
@@ -469,7 +417,7 @@ end_properties_fine : (o : OptionsData) (q : NodeProperties) (p : ParserState) �
     → Fine (end_properties o q p).frames
 unfolding end_properties
 end_properties_fine o q p c =
-    finish_fine _ (below_properties p.frames) (event_frames o (null_node q) (empty_span q.end) None p) c
+    finish_fine _ (below_properties p.frames) (node_event-frames o (null_node q) (empty_span q.end) None p) c
 
 pub end_top_fine : (o : OptionsData) (t : Token) (p : ParserState) (fs : List Frame) → p.frames ≡ fs → Fine fs
     → ends_top t p fs ≡ true → Fine (end_top o t p fs).frames

@@ -5,17 +5,18 @@ use Rattle.std.proofs.Common.{sym, subst, ◌-◌, ◌++◌}
 use Rattle.std.specs.Prelude.{if◌then◌else◌}
 use Rattle.granit_error.specs.FaultKind.{TooManyComments}
 use Rattle.granit_error.specs.OptionsData.{OptionsData}
-use Rattle.granit_invariants.proofs.RoomSteps.{Calm, CalmBy, FreshBy, Leaves, MayWait}
+use Rattle.granit_invariants.proofs.RoomSteps.{calm_by}
+use Rattle.granit_invariants.proofs.RoomSteps.{Calm, CalmBy, Leaves, MayWait}
 use Rattle.granit_invariants.proofs.RoomStream.{token_leaves}
 use Rattle.granit_lexemes.specs.Basics.{fails_at}
 use Rattle.granit_lexemes.specs.Comment.{CommentRead}
 use Rattle.granit_lexemes.specs.Lexeme as lexemes
-use Rattle.granit_lexemes.specs.Lexeme.{DirectiveKind, Version, TagPrefix, Reserved, LexemeKind, Lexeme, Item, OfLexeme}
+use Rattle.granit_lexemes.specs.Lexeme.{DirectiveKind, Version, TagPrefix, Reserved, LexemeKind, Item, OfLexeme}
 use Rattle.granit_lexemes.specs.Lexeme.{OfComment}
 use Rattle.granit_lexemes.specs.Outcome.{Fault, ◌>>=◌}
 use Rattle.granit_lexemes.specs.Pieces.{with_front, pieces}
 use Rattle.granit_lexemes.specs.PlainEvent.{PlainEvent, PlainVersion, event_at, Comment}
-use Rattle.granit_machine.proofs.ClosingLemmas.{close_turn-Shortens}
+use Rattle.granit_machine.proofs.ClosingLemmas.{close_turn-Shortens, FeedGiven}
 use Rattle.granit_machine.specs.Closing.{close, close_turn, depth, end_top, ends_top}
 use Rattle.granit_machine.specs.Entries.{lookup_text}
 use Rattle.granit_machine.specs.Frames.{Frame, Root, WithProperties, BlockSequence, BlockMapping, FlowSequence}
@@ -130,9 +131,6 @@ take_step o (FlowPair stage ∷ fs) t p e c k x =
 
 -- ---- what a token ends
 
-abbrev FeedGiven : Type 0
-FeedGiven = Result (List PlainEvent × ParserState) Fault
-
 abbrev StaysSeated : ParserState → FeedGiven → Type 0
 StaysSeated p (Ok x) = Fine p.frames → Sits p → Fine x.1.frames × Sits x.1
 StaysSeated p (Err f) = Unit {0}
@@ -198,14 +196,10 @@ tail_seats lexemes.Dash tail next p calm sits = (calm, sits)
 tail_seats kind None next p calm sits = (calm, sits)
 tail_seats kind (Some c) next p calm sits = comment_seats c next p calm sits
 
-fresh_calm : (room : Result ℕ Fault) (fs : List Frame) (w : Option Waiting) → FreshBy room fs w → CalmBy fs w
-fresh_calm room fs None x = tt
-fresh_calm room fs (Some w) x = x.0
-
 behind_tail : (room : Result ℕ Fault) (kind : LexemeKind) (tail : Option CommentRead) (next : Option ℕ) (r : Stepped)
     → Leaves room r → StepSits r → StepSeats (r >>= take_tail kind tail next)
 behind_tail room kind tail next (Ok q) leaves sits =
-    tail_seats kind tail next q (fresh_calm room q.frames q.waiting leaves.says) sits
+    tail_seats kind tail next q (calm_by room q.frames q.waiting leaves.says) sits
 behind_tail room kind tail next (Err f) leaves sits = tt
 
 abbrev pub FedSeats : Bool → FeedGiven → Type 0

@@ -16,7 +16,7 @@ use Rattle.granit_machine.specs.Parser.{feed}
 use Rattle.granit_machine.specs.Reader.{LexTurn, lex_turn}
 use Rattle.granit_recovery.proofs.LevelLaws.{Open, all_closed, in_stream, split, event_keeps, events_keep}
 use Rattle.granit_recovery.proofs.LevelLaws.{document_leaves, stream_leaves}
-use Rattle.granit_recovery.proofs.TurnLaws.{Along, along_stream, along_end, has_end, TurnAlong, step_along}
+use Rattle.granit_recovery.proofs.TurnLaws.{Along, along_stream, along_end, TurnAlong, step_along}
 use Rattle.granit_restart.proofs.MarkLaws.{items}
 use Rattle.granit_restart.specs.Boundary.{Boundary, AtStart, PastEnd, AtTextEnd, next_boundary}
 use Rattle.granit_restart.specs.Header.{is_in_header}
@@ -27,6 +27,7 @@ use Rattle.granit_restart.specs.Skipping.{ahead_by, ahead, ends_before, skip_tur
 use Rattle.granit_restart.specs.Skipping.{skip_by_turns, restarted, skipped_fault, skipped_to, skipped_document}
 use Rattle.granit_steps.proofs.Nesting.{levels_of}
 use Rattle.granit_steps.proofs.StepLaws.{step_turn-Shortens}
+use Rattle.granit_steps.proofs.StreamLaws.{has_end}
 use Rattle.granit_steps.specs.Levels.{Level, InStream, behind_event, behind_events}
 use Rattle.granit_steps.specs.Steps.{StepState, Turn, with_read, read_unless, read_more, with_fed}
 use Rattle.granit_steps.specs.Steps.{front_turn, turn_by, may_go, line_behind, step_turn, step_size, first_pending}
@@ -111,7 +112,7 @@ none_turn : (o : OptionsData) (s : StepState) → NoneTurn s (step_turn o s)
 unfolding step_turn
 none_turn o s = none_by o s.pending s.queue s
 
-abbrev event_in : Result (Option PlainEvent × StepState) Fault → Option PlainEvent
+abbrev pub event_in : Result (Option PlainEvent × StepState) Fault → Option PlainEvent
 event_in (Ok x) = x.0
 event_in (Err f) = None
 
@@ -270,3 +271,10 @@ skipped_good o stops (Failed f s) g = fault_skipped o stops f s
 pub document_skipped : (o : OptionsData) (stops : Stops) (s : StepState) → Known s
     → Good o (skipped_document o stops s)
 document_skipped o stops s k = skipped_good o stops (skip_by_turns o s) (skip_good o s k)
+
+abbrev pub NextAnswer : Type 0
+NextAnswer = Result (Option PlainEvent × StepState) Fault
+
+abbrev pub state_or : StepState → NextAnswer → StepState
+state_or s (Ok x) = x.1
+state_or s (Err f) = s

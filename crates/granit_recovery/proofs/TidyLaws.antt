@@ -1,6 +1,7 @@
 -- Turns keep anchors' events behind their nodes', and nothing is given behind the end of the stream.
 use Rattle.std.proofs.Common.{◌≡◌, ◌⊎◌, inl, inr, ℕ, zero, suc, Bool, true, false, List, [], ◌∷◌, ◌++◌, Option}
 use Rattle.std.proofs.Common.{Some, None, Result, Ok, Err, refl, sym, ap, subst, ◌∙◌, arith}
+use Rattle.std.proofs.lemmas.Bool.{or_parts}
 use Rattle.std.specs.Prelude.{if◌then◌else◌}
 use Rattle.granit_error.specs.OptionsData.{OptionsData}
 use Rattle.granit_lexemes.proofs.PieceLemmas.{pieces_done}
@@ -25,8 +26,9 @@ use Rattle.granit_recovery.proofs.LevelLaws.{event_keeps, in_stream, Open, split
 use Rattle.granit_recovery.proofs.OneLaws.{Inside, node_inside, strict_first}
 use Rattle.granit_recovery.proofs.RecoveryLaws.{first_same, second_same}
 use Rattle.granit_recovery.proofs.RestLaws.{done_turn}
-use Rattle.granit_recovery.proofs.TurnLaws.{Along, along_end, along_stream, has_end, next_along, NextAlong, none_behind}
-use Rattle.granit_recovery.proofs.TurnLaws.{OnlyComments, or_left, or_right, read_waits, Told, Waits}
+use Rattle.granit_recovery.proofs.SkipLaws.{event_in}
+use Rattle.granit_recovery.proofs.TurnLaws.{Along, along_end, along_stream, next_along, NextAlong, none_behind}
+use Rattle.granit_recovery.proofs.TurnLaws.{read_waits, Told, Waits}
 use Rattle.granit_recovery.specs.Ids.{counting_from}
 use Rattle.granit_recovery.specs.OneDocument.{BehindStart, strict_events, StandStrictly}
 use Rattle.granit_restart.proofs.MarkLaws.{items, pushed_items}
@@ -34,6 +36,7 @@ use Rattle.granit_restart.specs.Skipping.{with_pending}
 use Rattle.granit_steps.proofs.Futures.{pushed_nil}
 use Rattle.granit_steps.proofs.KeyReads.{possibles, Items, Lexed, read_keys}
 use Rattle.granit_steps.proofs.Nesting.{base_levels, levels_of}
+use Rattle.granit_steps.proofs.StreamLaws.{OnlyComments, has_end}
 use Rattle.granit_steps.proofs.StreamNesting.{is_end_item}
 use Rattle.granit_steps.specs.Levels.{and_then, behind_event, behind_events, InStream, Level}
 use Rattle.granit_steps.specs.Steps.{feed_front, first_pending, front_turn, incoming, line_behind, may_go, next_event}
@@ -53,7 +56,7 @@ Last false is = has_end is ≡ false
 pub last_behind : (ended : Bool) (xs ys : List Item) → has_end xs ≡ false → Last ended ys → Last ended (xs ++ ys)
 last_behind true [] ys e l = l
 last_behind true (x ∷ xs) ys e l =
-    inr (or_left (is_end_item x) (has_end xs) e, last_behind true xs ys (or_right (is_end_item x) (has_end xs) e) l)
+    let parts = or_parts (is_end_item x) (has_end xs) e in inr (parts.0, last_behind true xs ys parts.1 l)
 last_behind false xs ys e l = none_behind xs ys e l
 
 end_comes : (b : Bool) (l : Lexeme) → is_end_kind l.kind ≡ true → l.tail ≡ None
@@ -115,7 +118,7 @@ last_fed : (ended : Bool) (s : StepState) (i : FlaggedItem) (is : List FlaggedIt
 last_fed true s i is x e ends (inl l) = passed (items_none is l.1) e (inr (ends l.0 l.2))
 last_fed true s i is x e ends (inr l) = still (subst (λ b. Last b (items is)) (sym e) l.1)
 last_fed false s i is x e ends l =
-    still (subst (λ b. Last b (items is)) (sym e) (or_right (is_end_item i.item) (has_end (items is)) l))
+    still (subst (λ b. Last b (items is)) (sym e) (or_parts (is_end_item i.item) (has_end (items is)) l).1)
 
 waits_fed : (s : StepState) (i : FlaggedItem) (is : List FlaggedItem) (x : List PlainEvent × ParserState)
     → s.queue ≡ i ∷ is → (is_end_item i.item ≡ true → Untailed i.item → EndsStream x.0) → EndWaits s
@@ -328,10 +331,6 @@ given_next o s g =
     ap (λ r. r >>= λ x. Ok (first_pending x.1.pending x.1))
     (pieces_done step_size (step_turn o) s s (done_turn o s g.pending g.queue g.ended))
     ∙ ap (λ es. Ok (first_pending es s)) g.pending
-
-abbrev event_in : Result (Option PlainEvent × StepState) Fault → Option PlainEvent
-event_in (Ok x) = x.0
-event_in (Err f) = None
 
 silent : (o : OptionsData) (s t : StepState) (e : PlainEvent) → Along [] s → EndWaits s
     → next_event o s ≡ Ok (Some e, t) → ⊥

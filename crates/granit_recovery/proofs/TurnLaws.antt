@@ -1,7 +1,8 @@
 -- The machine's states go along a stream: what their pending events leave open is what their frames are in, and each
 -- turn keeps that.
-use Rattle.std.proofs.Common.{◌≡◌, ℕ, zero, suc, Bool, true, false, ◌||◌, List, [], ◌∷◌, ◌++◌, Option, Some, None}
+use Rattle.std.proofs.Common.{◌≡◌, ℕ, zero, suc, Bool, true, false, List, [], ◌∷◌, ◌++◌, Option, Some, None}
 use Rattle.std.proofs.Common.{Result, Ok, Err, refl, sym, ap, subst, ◌∙◌}
+use Rattle.std.proofs.lemmas.Bool.{or_parts, or_from}
 use Rattle.std.specs.Prelude.{if◌then◌else◌}
 use Rattle.granit_error.specs.OptionsData.{OptionsData}
 use Rattle.granit_lexemes.specs.Lexeme.{Lexeme, Item, OfLexeme, OfComment}
@@ -21,6 +22,7 @@ use Rattle.granit_restart.specs.Calls.{failing_by, failing_in}
 use Rattle.granit_steps.proofs.Futures.{pushed_nil}
 use Rattle.granit_steps.proofs.KeyReads.{possibles, Items, IsComment, Lexed, read_keys}
 use Rattle.granit_steps.proofs.Nesting.{levels_of}
+use Rattle.granit_steps.proofs.StreamLaws.{Fit, OnlyComments, has_end, only_rest}
 use Rattle.granit_steps.proofs.StreamNesting.{is_end_item, Rests, Over, Fed, feed_fed, comment_over}
 use Rattle.granit_steps.specs.Levels.{Level, behind_event, behind_events}
 use Rattle.granit_steps.specs.Steps.{StepState, incoming, may_go, line_behind, Turn}
@@ -29,58 +31,33 @@ use Rattle.granit_steps.specs.Steps.{step_turn, first_pending, settle, next_even
 
 -- ---- items of which the end is the last lexeme
 
-abbrev pub OnlyComments : List Item → Type 0
-OnlyComments [] = Unit {0}
-OnlyComments (OfLexeme l ∷ is) = ⊥
-OnlyComments (OfComment c ∷ is) = OnlyComments is
-
-abbrev pub Fit : List Item → Type 0
-Fit [] = Unit {0}
-Fit (i ∷ is) = (is_end_item i ≡ true → OnlyComments is) × Fit is
-
-abbrev pub has_end : List Item → Bool
-has_end [] = false
-has_end (i ∷ is) = is_end_item i || has_end is
-
 -- items that wait where the end was read, or wasn't
 abbrev pub Waits : (ended : Bool) → List Item → Type 0
 Waits true is = Fit is
 Waits false is = has_end is ≡ false
 
-pub or_left : (a b : Bool) → (a || b) ≡ false → a ≡ false
-or_left true b e = e
-or_left false b e = refl
-
-pub or_right : (a b : Bool) → (a || b) ≡ false → b ≡ false
-or_right true b e = absurd (cc)
-or_right false b e = e
-
-both_false : (a b : Bool) → a ≡ false → b ≡ false → (a || b) ≡ false
-both_false true b p q = p
-both_false false b p q = q
-
 waits_rest : (ended : Bool) (i : Item) (is : List Item) → is_end_item i ≡ false → Waits ended (i ∷ is)
     → Waits ended is
 waits_rest true i is e w = w.1
-waits_rest false i is e w = or_right (is_end_item i) (has_end is) w
+waits_rest false i is e w = (or_parts (is_end_item i) (has_end is) w).1
 
 waits_end : (ended : Bool) (i : Item) (is : List Item) → is_end_item i ≡ true → Waits ended (i ∷ is)
     → OnlyComments is × (ended ≡ true)
 waits_end true i is e w = (w.0 e, refl)
-waits_end false i is e w = absurd (let f = or_left (is_end_item i) (has_end is) w in cc)
+waits_end false i is e w = absurd (let f = (or_parts (is_end_item i) (has_end is) w).0 in cc)
 
 fit_behind : (xs ys : List Item) → has_end xs ≡ false → Fit ys → Fit (xs ++ ys)
 fit_behind [] ys e f = f
 fit_behind (x ∷ xs) ys e f = (
-  λ is. absurd (let n = or_left (is_end_item x) (has_end xs) e in cc),
-  fit_behind xs ys (or_right (is_end_item x) (has_end xs) e) f,
+  λ is. absurd (let n = (or_parts (is_end_item x) (has_end xs) e).0 in cc),
+  fit_behind xs ys (or_parts (is_end_item x) (has_end xs) e).1 f,
 )
 
 pub none_behind : (xs ys : List Item) → has_end xs ≡ false → has_end ys ≡ false → has_end (xs ++ ys) ≡ false
 none_behind [] ys e f = f
 none_behind (x ∷ xs) ys e f =
-    both_false (is_end_item x) (has_end (xs ++ ys)) (or_left (is_end_item x) (has_end xs) e)
-    (none_behind xs ys (or_right (is_end_item x) (has_end xs) e) f)
+    or_from (is_end_item x) (has_end (xs ++ ys)) (or_parts (is_end_item x) (has_end xs) e).0
+    (none_behind xs ys (or_parts (is_end_item x) (has_end xs) e).1 f)
 
 waits_behind : (ended : Bool) (xs ys : List Item) → has_end xs ≡ false → Waits ended ys → Waits ended (xs ++ ys)
 waits_behind true xs ys e w = fit_behind xs ys e w
@@ -89,7 +66,7 @@ waits_behind false xs ys e w = none_behind xs ys e w
 lexeme_waits : (ended : Bool) (l : Lexeme) (is : List Item) → is_end_kind l.kind ≡ ended → OnlyComments is
     → has_end is ≡ false → Fit is → Waits ended (OfLexeme l ∷ is)
 lexeme_waits true l is e only none fit = (λ y. only, fit)
-lexeme_waits false l is e only none fit = both_false (is_end_kind l.kind) (has_end is) e none
+lexeme_waits false l is e only none fit = or_from (is_end_kind l.kind) (has_end is) e none
 
 tail_waits : (b : Bool) (l : Lexeme) (is : List Item) → IsComment is
     → Waits (is_end_kind l.kind) (incoming b (OfLexeme l ∷ is))
@@ -149,10 +126,6 @@ fed_end : (ls : List Level) (s : StepState) (is : List FlaggedItem) (r : Result 
     → TurnAlong ls (r >>= λ x. Ok (Some [], with_fed s is x))
 fed_end ls s is (Ok x) e only ended f = along_end (ap (behind_events x.0) e ∙ f.0) f.1 only ended
 fed_end ls s is (Err g) e only ended f = tt
-
-only_rest : (i : Item) (is : List Item) → OnlyComments (i ∷ is) → OnlyComments is
-only_rest (OfLexeme l) is p = absurd p
-only_rest (OfComment c) is p = p
 
 comment_fed : (o : OptionsData) (i : Item) (b : Bool) (is : List Item) (next : Option ℕ) (p : ParserState)
     → OnlyComments (i ∷ is) → Over p → Fed true [] (feed o (record { item = i; begins_key = b }) next p)

@@ -1,15 +1,16 @@
 -- The boundary that is found is the next one, and there is no other.
-use Rattle.std.proofs.Common.{◌≡◌, ℕ, suc, Bool, true, false, ◌&&◌, ◌||◌, ◌==◌, not, List, [], ◌∷◌, ◌++◌, length}
+use Rattle.std.proofs.Common.{◌≡◌, ℕ, suc, Bool, true, false, ◌&&◌, ◌==◌, List, [], ◌∷◌, ◌++◌, length}
 use Rattle.std.proofs.Common.{drop, Option, Some, None, refl, sym, ap, ap₂, subst, ◌∙◌, arith, append_assoc}
+use Rattle.std.proofs.lemmas.Bool.{and_parts, eq-eqb, eqb-true}
 use Rattle.std.specs.Prelude.{if◌then◌else◌}
 use Rattle.std.proofs.lemmas.Bool.Decides.{nat_tests}
-use Rattle.granit_base.specs.Classes.{is_blank, is_bom, is_break, is_breakz, is_printable, is_z}
+use Rattle.granit_base.specs.Classes.{is_blank, is_bom, is_break}
+use Rattle.granit_lexemes.proofs.CharTests.{no_break_noted, blank_apart_from_break}
 use Rattle.granit_lexemes.proofs.HereLemmas.{step_text}
 use Rattle.granit_lexemes.specs.Comment.{is_comment_char}
 use Rattle.granit_lexemes.specs.Gap.{Each}
 use Rattle.granit_lexemes.specs.Here.{Here, next_char, step}
 use Rattle.granit_lexemes.specs.Moves.{past_prefix_mark, steps}
-use Rattle.granit_steps.proofs.Futures.{and_left, and_right}
 use Rattle.granit_restart.specs.Boundary.{Boundary, AtStart, PastEnd, AtTextEnd, is_separated, is_mark_of, past_note}
 use Rattle.granit_restart.specs.Boundary.{finished_line, past_end, mark_here, boundary_here, over_dropped, boundary_or}
 use Rattle.granit_restart.specs.Boundary.{boundary_in, next_boundary}
@@ -125,18 +126,6 @@ line_to (c ∷ cs) h k e = line_by (is_break c) (is_blank c) (c == 0x23) c cs h 
 
 -- and the other way round
 
-no_break_noted : (c : ℕ) → is_comment_char c ≡ true → is_break c ≡ false
-unfolding is_breakz
-no_break_noted c e = by (is_break c) refl
-  where
-    by : (b : Bool) → is_break c ≡ b → is_break c ≡ false
-    by true is = absurd (let g : is_comment_char c ≡ false = ap (λ b. not (b || is_z c) && is_printable c) is in cc)
-    by false is = is
-
-no_break_blank : (c : ℕ) → is_blank c ≡ true → is_break c ≡ false
-unfolding is_blank is_break
-no_break_blank c e = grind (arith, nat_tests)
-
 note_read : (note behind : List ℕ) (h : Here) → Each is_comment_char note → IsLineEnd behind
     → past_note (note ++ behind) h ≡ Some (steps (length note) h)
 unfolding steps
@@ -159,7 +148,7 @@ unfolding steps
 blanks_then [] rest h k each e = e
 blanks_then (c ∷ cs) rest h k each e =
     ap₂ (λ a b. if a then Some h else if b then finished_line (cs ++ rest) (step h)
-    else if c == 0x23 then past_note (cs ++ rest) (step h) else None) (no_break_blank c each.0) each.0
+    else if c == 0x23 then past_note (cs ++ rest) (step h) else None) (blank_apart_from_break c each.0) each.0
     ∙ blanks_then cs rest (step h) k each.1 e
 
 ends_read : (behind : List ℕ) (h : Here) → IsLineEnd behind → finished_line behind h ≡ Some h
@@ -189,30 +178,24 @@ record Marked (sign : ℕ) (text : List ℕ) : Type 0 where
   spelled : text ≡ sign ∷ sign ∷ sign ∷ behind
   separated : is_separated behind ≡ true
 
-equal : (a b : ℕ) → (a == b) ≡ true → a ≡ b
-equal a b e = grind (arith, nat_tests)
-
-same : (a : ℕ) → (a == a) ≡ true
-same a = grind (arith, nat_tests)
-
 marked : (sign : ℕ) (text : List ℕ) → is_mark_of sign text ≡ true → Marked sign text
 marked sign [] e = absurd (cc)
 marked sign (a ∷ []) e = absurd (cc)
 marked sign (a ∷ b ∷ []) e = absurd (cc)
 marked sign (a ∷ b ∷ c ∷ cs) e =
-    let all = and_left (a == sign && (b == sign && c == sign)) (is_separated cs) e in
-    let more = and_right (a == sign) (b == sign && c == sign) all in
+    let all = (and_parts (a == sign && (b == sign && c == sign)) (is_separated cs) e).0 in
+    let more = (and_parts (a == sign) (b == sign && c == sign) all).1 in
     record {
       behind = cs;
-      spelled = ap₂ (λ x (t : List ℕ). x ∷ t) (equal a sign (and_left (a == sign) (b == sign && c == sign) all))
-          (ap₂ (λ x (t : List ℕ). x ∷ t) (equal b sign (and_left (b == sign) (c == sign) more))
-          (ap (λ x. x ∷ cs) (equal c sign (and_right (b == sign) (c == sign) more))));
-      separated = and_right (a == sign && (b == sign && c == sign)) (is_separated cs) e;
+      spelled = ap₂ (λ x (t : List ℕ). x ∷ t) (eqb-true a sign (and_parts (a == sign) (b == sign && c == sign) all).0)
+          (ap₂ (λ x (t : List ℕ). x ∷ t) (eqb-true b sign (and_parts (b == sign) (c == sign) more).0)
+          (ap (λ x. x ∷ cs) (eqb-true c sign (and_parts (b == sign) (c == sign) more).1)));
+      separated = (and_parts (a == sign && (b == sign && c == sign)) (is_separated cs) e).1;
     }
 
 is_marked : (sign : ℕ) (behind : List ℕ) → is_separated behind ≡ true
     → is_mark_of sign (sign ∷ sign ∷ sign ∷ behind) ≡ true
-is_marked sign behind e = ap₂ (λ a b. (a && (a && a)) && b) (same sign) e
+is_marked sign behind e = ap₂ (λ a b. (a && (a && a)) && b) (eq-eqb sign sign refl) e
 
 end_found : (behind : List ℕ) (h : Here) (b : Boundary) (r : Option Here) → h.place.column ≡ 0
     → h.unread.text ≡ 0x2E ∷ 0x2E ∷ 0x2E ∷ behind → is_separated behind ≡ true
@@ -244,7 +227,7 @@ mark_found false false text h b is column a-is d-is e = absurd (cc)
 here_by : (a : Bool) (text : List ℕ) (h : Here) (b : Boundary) → h.unread.text ≡ text → (h.place.column == 0) ≡ a
     → (if a then mark_here text h else None) ≡ Some b → BoundaryStands h b
 here_by true text h b is column e =
-    mark_found (is_mark_of 0x2D text) (is_mark_of 0x2E text) text h b is (equal h.place.column 0 column) refl refl e
+    mark_found (is_mark_of 0x2D text) (is_mark_of 0x2E text) text h b is (eqb-true h.place.column 0 column) refl refl e
 here_by false text h b is column e = absurd (cc)
 
 -- what is found here stands here
@@ -270,12 +253,12 @@ stands_found h b (stands_text_end text) = ap (λ (t : List ℕ). boundary_here t
 
 -- ---- the next one
 
-dropped_if : (b : Bool) (h : Here) (cs : List ℕ) → (past_prefix_mark h).unread.text ≡ cs → (step h).unread.text ≡ cs
+pub dropped_if : (b : Bool) (h : Here) (cs : List ℕ) → (past_prefix_mark h).unread.text ≡ cs → (step h).unread.text ≡ cs
     → (if b then past_prefix_mark h else step h).unread.text ≡ cs
 dropped_if true h cs p q = p
 dropped_if false h cs p q = q
 
-dropped_text : (c : ℕ) (cs : List ℕ) (h : Here) → h.unread.text ≡ c ∷ cs → (over_dropped h).unread.text ≡ cs
+pub dropped_text : (c : ℕ) (cs : List ℕ) (h : Here) → h.unread.text ≡ c ∷ cs → (over_dropped h).unread.text ≡ cs
 unfolding past_prefix_mark
 dropped_text c cs h e = dropped_if (h.place.column == 0 && is_bom (next_char h)) h cs
     (ap (λ (t : List ℕ). drop 1 t) e ∙ refl) (step_text h ∙ ap (λ (t : List ℕ). drop 1 t) e ∙ refl)

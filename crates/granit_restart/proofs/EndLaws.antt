@@ -35,9 +35,6 @@ use Rattle.granit_steps.specs.Steps.{first_pending, next_event, read_more, StepS
 Told : ℕ → List PlainEvent → Type 0
 Told room es = (x : Result Bool Fault) × (told_by room es ≡ Some x)
 
-same_told : (x y : Result Bool Fault) → Some x ≡ Some y → x ≡ y
-same_told x y e = cc
-
 end_kind : (kind : EventKind) (room again : ℕ) (m : Mark) (es : List PlainEvent)
     → ((left now : ℕ) → told_by left es ≡ Some (Ok false) → (x : Result Bool Fault) × (told_by now es ≡ Some x))
     → told_event room kind m (λ left. told_by left es) ≡ Some (Ok false)

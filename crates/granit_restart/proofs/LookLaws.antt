@@ -1,6 +1,7 @@
 -- A look ahead by turns tells what is told without them.
 use Rattle.std.proofs.Common.{◌≡◌, ℕ, zero, suc, ◌<◌, ◌-◌, ◌==◌, Bool, true, false, ◌||◌, ◌&&◌, List, [], ◌∷◌, ◌++◌}
 use Rattle.std.proofs.Common.{Option, Some, None, Result, Ok, Err, refl, sym, ap, subst, ◌∙◌, arith}
+use Rattle.std.proofs.lemmas.Option.{same_Some}
 use Rattle.std.specs.Prelude.{if◌then◌else◌}
 use Rattle.granit_base.specs.Place.{Mark}
 use Rattle.granit_error.specs.FaultKind.{TooManyComments, UnsupportedYamlMajorVersion}
@@ -94,16 +95,13 @@ events_alike room (x ∷ es) f g e =
 
 -- ---- what waits tells
 
-same_told : (x y : Result Bool Fault) → Some x ≡ Some y → x ≡ y
-same_told x y e = cc
-
 told_kind : (kind : EventKind) (room : ℕ) (m : Mark) (told : ℕ → Option (Result Bool Fault))
     (past : ℕ → Result Bool Fault) (x : Result Bool Fault) → ((n : ℕ) → told n ≡ Some x → past n ≡ x)
     → told_event room kind m told ≡ Some x → past_event room kind m past ≡ x
-told_kind (Comment text placement) zero m told past x more e = same_told (fails_at TooManyComments m) x e
+told_kind (Comment text placement) zero m told past x more e = same_Some (fails_at TooManyComments m) x e
 told_kind (Comment text placement) (suc n) m told past x more e = more n e
-told_kind StreamEnd room m told past x more e = same_told (Ok false) x e
-told_kind kind room m told past x more e = same_told (Ok true) x e
+told_kind StreamEnd room m told past x more e = same_Some (Ok false) x e
+told_kind kind room m told past x more e = same_Some (Ok true) x e
 
 pub told_past : (room : ℕ) (es : List PlainEvent) (more : ℕ → Result Bool Fault) (x : Result Bool Fault)
     → told_by room es ≡ Some x → past_events room es more ≡ x
@@ -158,7 +156,7 @@ FedLooks v left more (Ok x) = Looks v left more x.0 x.1
 FedLooks v left more (Err f) = v ≡ Ok true
 
 -- what a step hands out
-abbrev handed : Stepped → Result (List PlainEvent × ParserState) Fault
+abbrev pub handed : Stepped → Result (List PlainEvent × ParserState) Fault
 handed r = r >>= λ q. Ok (q.given, record q { given = [] })
 
 start_fed : (v : Result Bool Fault) (left : ℕ) (more : ℕ → Result Bool Fault) (e : PlainEvent) (r : Stepped)
@@ -217,7 +215,7 @@ bare_begins : (sort : TokenSort) (t : Token) (room : ℕ) (later : ℕ → Optio
 bare_begins BeginsNode t room later = refl
 bare_begins sort t room later = refl
 
-document_starts : (o : OptionsData) (t : Token) (p : ParserState)
+pub document_starts : (o : OptionsData) (t : Token) (p : ParserState)
     → StepStarts (bare_start t.sort t) (begin_document o t (outer p))
 document_starts o t p =
     let e = bare_start t.sort t in

@@ -2,7 +2,9 @@
 -- the same boundary as all that waits.
 use Rattle.std.proofs.Common.{◌≡◌, ℕ, suc, ◌<◌, Bool, true, false, ◌||◌, not, List, [], ◌∷◌, ◌++◌, map, Option, Some}
 use Rattle.std.proofs.Common.{None, Result, Ok, Err, refl, sym, ap, subst, ◌∙◌, append_assoc, arith}
+use Rattle.std.proofs.lemmas.Bool.{not-true, or_parts}
 use Rattle.std.proofs.lemmas.List.{append-nil}
+use Rattle.std.proofs.lemmas.Option.{same_Some}
 use Rattle.std.specs.Prelude.{if◌then◌else◌}
 use Rattle.granit_error.specs.OptionsData.{OptionsData}
 use Rattle.granit_lexemes.specs.Comment.{CommentRead}
@@ -62,14 +64,10 @@ all_settled : (l : Laid) (is : List Item) → IsClear l → MarksSettled l is
 all_settled l [] p = tt
 all_settled l (i ∷ is) p = (λ e. clear_settles l i p, all_settled l is p)
 
-or_right : (a b : Bool) → (a || b) ≡ false → b ≡ false
-or_right true b e = absurd (cc)
-or_right false b e = e
-
 unmarked_settled : (l : Laid) (is : List Item) → any_marks is ≡ false → MarksSettled l is
 unmarked_settled l [] e = tt
 unmarked_settled l (i ∷ is) e =
-    (λ any. absurd (cc), unmarked_settled l is (or_right (marks i) (any_marks is) e))
+    (λ any. absurd (cc), unmarked_settled l is (or_parts (marks i) (any_marks is) e).1)
 
 any_append : (xs ys : List Item) → any_marks ys ≡ false → any_marks (xs ++ ys) ≡ any_marks xs
 any_append [] ys e = e
@@ -106,14 +104,10 @@ fed_marked : (s : StepState) (i : FlaggedItem) (is : List FlaggedItem)
 fed_marked s i is (Ok x) p = p.1
 fed_marked s i is (Err f) p = tt
 
-was_possible : (b : Bool) → not b ≡ true → b ≡ false
-was_possible true e = absurd (cc)
-was_possible false e = refl
-
 stays_settled : (o : OptionsData) (s t : ReaderState) (is : List Item) → read o s ≡ Ok (is, t) → (i : Item)
     → IsOld s.laid.number i → is_settled s.laid i ≡ true → is_settled t.laid i ≡ true
 stays_settled o s t is r (OfLexeme l) old e =
-    ap not (never_possible_again o s t is l.number r old (was_possible (is_possible l.number s.laid) e))
+    ap not (never_possible_again o s t is l.number r old (not-true (is_possible l.number s.laid) e))
 stays_settled o s t is r (OfComment c) old e = refl
 
 read_settled : (o : OptionsData) (s t : ReaderState) (is : List Item) (q : List FlaggedItem) (b : Bool)
@@ -217,12 +211,9 @@ lexeme_sound h s lexemes.DocumentStart l less = anew_sound false _ h s (omega (a
 lexeme_sound h s lexemes.DocumentEnd l less = anew_sound true [] h s tt
 lexeme_sound h s kind l less = anew_sound false [] h s tt
 
-same_lexeme : (x l : Lexeme) → Some x ≡ Some l → x ≡ l
-same_lexeme x l e = cc
-
 found_or : (n : ℕ) (b : Bool) (x : Lexeme) (later : Option Lexeme) (l : Lexeme) → x.number < n
     → (later ≡ Some l → l.number < n) → lexeme_or b x later ≡ Some l → l.number < n
-found_or n true x later l less more e = subst (λ (y : Lexeme). y.number < n) (same_lexeme x l e) less
+found_or n true x later l less more e = subst (λ (y : Lexeme). y.number < n) (same_Some x l e) less
 found_or n false x later l less more e = more e
 
 found_in : (h : Here) (n : ℕ) (i : Item) (later : Option Lexeme) (l : Lexeme) → IsOld n i
@@ -265,10 +256,6 @@ other_kind h lexemes.DocumentEnd l e = absurd (cc)
 other_kind h lexemes.StreamEnd l e = absurd (cc)
 other_kind h kind l e = refl
 
-or_left : (a b : Bool) → (a || b) ≡ false → a ≡ false
-or_left true b e = e
-or_left false b e = refl
-
 none_in : (h : Here) (i : Item) (later : Option Lexeme) → marks i ≡ false → later ≡ None
     → boundary_of h i later ≡ None
 none_in h (OfLexeme l) later e none = ap (λ b. lexeme_or b l later) (other_kind h l.kind l e) ∙ none
@@ -277,8 +264,8 @@ none_in h (OfComment c) later e none = none
 pub none_read : (h : Here) (q : List FlaggedItem) → any_marks (items q) ≡ false → read_boundary h q ≡ None
 none_read h [] e = refl
 none_read h (f ∷ q) e =
-    none_in h f.item (read_boundary h q) (or_left (marks f.item) (any_marks (items q)) e)
-    (none_read h q (or_right (marks f.item) (any_marks (items q)) e))
+    none_in h f.item (read_boundary h q) (or_parts (marks f.item) (any_marks (items q)) e).0
+    (none_read h q (or_parts (marks f.item) (any_marks (items q)) e).1)
 
 pub unsettled_none : (l : Laid) (i : Item) (is : List Item) (b : Bool) → any_marks (i ∷ is) ≡ b
     → MarksSettled l (i ∷ is) → is_settled l i ≡ false → b ≡ false

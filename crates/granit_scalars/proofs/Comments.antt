@@ -1,7 +1,7 @@
 -- A comment is read where it stands.
 use Rattle.std.proofs.Common.{◌≡◌, ℕ, zero, suc, ◌+◌, ◌==◌, Bool, true, false, not, ◌&&◌, ◌||◌, cond, List, [], ◌∷◌}
 use Rattle.std.proofs.Common.{◌++◌, length, take, drop, inl, inr, ◌⊎◌, Result, Ok, Err, refl, sym, ap, ap₂, ◌∙◌, subst}
-use Rattle.std.proofs.Common.{arith}
+use Rattle.std.proofs.Common.{arith, Option, Some}
 use Rattle.std.specs.Prelude.{if◌then◌else◌}
 use Rattle.std.specs.List.{prefix_len}
 use Rattle.std.proofs.lemmas.List.{drop-drop, take-append-drop}
@@ -10,6 +10,7 @@ use Rattle.std.proofs.lemmas.Bool.Decides.{nat_tests}
 use Rattle.granit_base.specs.Classes.{is_break, is_breakz, is_printable, is_z}
 use Rattle.granit_base.specs.Place.{first}
 use Rattle.granit_error.specs.FaultKind.{UnexpectedCharacter}
+use Rattle.granit_lexemes.proofs.CharTests.{break_prints}
 use Rattle.granit_lexemes.specs.Comment.{is_comment_char, behind_comment, skipped_comment, comment, comment_of}
 use Rattle.granit_lexemes.specs.Comment.{comment_read, past_comment, CommentRead, IsComment, IsSpoiled, StandsComment}
 use Rattle.granit_lexemes.specs.Comment.{ReadsComment}
@@ -179,10 +180,6 @@ ended : (behind : List ℕ) → (behind ≡ []) ⊎ (is_break (first behind) ≡
 ended behind (inl e) = ap (λ (t : List ℕ). is_comment_char (first t)) e ∙ no_comment_nul
 ended behind (inr y) = no_comment_break (first behind) y
 
-pub break_prints : (c : ℕ) → is_break c ≡ true → is_printable c ≡ true
-unfolding is_break is_printable
-break_prints c y = grind (arith, nat_tests)
-
 pub not_both : (x cs ds : List ℕ) (c : ℕ) → IsComment x cs → IsSpoiled x ds c → ⊥
 not_both x cs ds c p q =
     let joined : cs ++ p.behind ≡ ds ++ c ∷ q.behind = let e = sym p.spelled ∙ q.spelled in cc in
@@ -214,3 +211,7 @@ is_given h c after p (Err f) q = absurd (not_both h.unread.text c.text.character
 -- a comment that stands there is read
 pub comment_answered : (h : Here) (c : CommentRead) (after : Here) → StandsComment h c after → comment h ≡ Ok (c, after)
 comment_answered h c after p = is_given h c after p (comment h) (comment_reads h (ap first p.spelled.spelled))
+
+-- a comment, where one is asked for
+abbrev pub with_note : Result (CommentRead × Here) Fault → Result (Option CommentRead × Here) Fault
+with_note r = r >>= λ x. Ok (Some x.0, x.1)

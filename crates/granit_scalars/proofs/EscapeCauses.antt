@@ -20,7 +20,8 @@ use Rattle.granit_lexemes.specs.QuotedExtent.{no_character}
 use Rattle.granit_lexemes.specs.QuotedScalar.{digits_or, joined_or, second_half_or, numbered_or, escape_or_by}
 use Rattle.granit_lexemes.specs.QuotedScalar.{escape_or}
 use Rattle.granit_lexemes.proofs.DecodingLemmas.{number_letter, u_wants_four}
-use Rattle.granit_scalars.proofs.QuotedEscapes.{text_behind, over_text, counted, numbered_half, by_digits}
+use Rattle.granit_lexemes.proofs.HereLemmas.{stepped_text}
+use Rattle.granit_scalars.proofs.QuotedEscapes.{over_text, counted, numbered_half, by_digits}
 
 too_few : (kind : FaultKind) (start : Mark) (count n : ℕ) (ds t : List ℕ) (h : Here) → h.unread.text ≡ ds ++ t
     → Each is_hex ds → length ds < count → is_hex (first t) ≡ false
@@ -31,7 +32,7 @@ too_few kind start (suc count) n [] t h e y l m =
     cond-false (is_hex (next_char h)) _ _ (ap (λ (u : List ℕ). is_hex (first u)) e ∙ m)
 too_few kind start (suc count) n (d ∷ ds) t h e y l m =
     cond-true (is_hex (next_char h)) _ _ (ap (λ (u : List ℕ). is_hex (first u)) e ∙ y.0)
-    ∙ too_few kind start count (n * 16 + hex_value (next_char h)) ds t (step h) (text_behind h d (ds ++ t) e) y.1
+    ∙ too_few kind start count (n * 16 + hex_value (next_char h)) ds t (step h) (stepped_text h d (ds ++ t) e) y.1
     (omega arith) m
 
 letter_wants : (start : Mark) (h : Here) (l count : ℕ) → next_char h ≡ l → digit_count l ≡ Some count
@@ -93,9 +94,9 @@ wrong_escape start (hex {l = l} {count = count} {text = t} y few) h e =
     letter_wants start h l count (ap first e) y
     ∙ ap (λ r. r >>= λ x. numbered_or start count x.0 x.1)
     (too_few InvalidQuotedScalarHexEscape start count 0 few.digits few.rest (step h)
-    (text_behind h l t e ∙ few.are) few.each few.fewer few.ended)
+    (stepped_text h l t e ∙ few.are) few.each few.fewer few.ended)
 wrong_escape start (no_second high rest a y n) h e =
-    let there = text_behind h 0x75 (high ++ rest) e in
+    let there = stepped_text h 0x75 (high ++ rest) e in
     by_digits start h 0x75 4 high rest e u_wants_four a
     ∙ numbered_half start (number_of high) (over high (step h)) y
     ∙ second_missing start (number_of high) rest (over high (step h)) (over_text high rest (step h) there) n
@@ -103,25 +104,25 @@ wrong_escape start (second_hex high rest a y few) h e =
     let tail = 0x5C ∷ 0x75 ∷ rest in
     let next = over high (step h) in
     let there : next.unread.text ≡ 0x5C ∷ 0x75 ∷ rest =
-    over_text high tail (step h) (text_behind h 0x75 (high ++ tail) e) in
+    over_text high tail (step h) (stepped_text h 0x75 (high ++ tail) e) in
     by_digits start h 0x75 4 high tail e u_wants_four a
     ∙ numbered_half start (number_of high) next y
     ∙ second_begun start (number_of high) rest next there
     ∙ ap (λ r. r >>= λ x. joined_or start (number_of high) x.0 x.1)
     (too_few InvalidLowSurrogateHexEscape start 4 0 few.digits few.rest (step (step next))
-    (text_behind (step next) 0x75 rest (text_behind next 0x5C (0x75 ∷ rest) there) ∙ few.are)
+    (stepped_text (step next) 0x75 rest (stepped_text next 0x5C (0x75 ∷ rest) there) ∙ few.are)
     few.each few.fewer few.ended)
 wrong_escape start (no_half high low rest a y b n) h e =
     let tail = 0x5C ∷ 0x75 ∷ (low ++ rest) in
     let next = over high (step h) in
     let there : next.unread.text ≡ 0x5C ∷ 0x75 ∷ (low ++ rest) =
-    over_text high tail (step h) (text_behind h 0x75 (high ++ tail) e) in
+    over_text high tail (step h) (stepped_text h 0x75 (high ++ tail) e) in
     by_digits start h 0x75 4 high tail e u_wants_four a
     ∙ numbered_half start (number_of high) next y
     ∙ second_begun start (number_of high) (low ++ rest) next there
     ∙ ap (λ r. r >>= λ x. joined_or start (number_of high) x.0 x.1)
     (counted InvalidLowSurrogateHexEscape start 4 low rest (step (step next))
-    (text_behind (step next) 0x75 (low ++ rest) (text_behind next 0x5C (0x75 ∷ (low ++ rest)) there)) b)
+    (stepped_text (step next) 0x75 (low ++ rest) (stepped_text next 0x5C (0x75 ∷ (low ++ rest)) there)) b)
     ∙ cond-false (is_low (number_of low)) _ _ n
 wrong_escape start (alone low rest a y) h e =
     by_digits start h 0x75 4 low rest e u_wants_four a ∙ numbered_low start (number_of low) (over low (step h)) y

@@ -1,9 +1,9 @@
 -- How the lines of a source fold, character by character.
-use Rattle.std.proofs.Common.{◌≡◌, ℕ, suc, Bool, true, false, arith, List, [], ◌∷◌, ◌++◌, refl, sym, ap, ap₂, ◌∙◌}
+use Rattle.std.proofs.Common.{◌≡◌, ℕ, suc, Bool, true, false, List, [], ◌∷◌, ◌++◌, refl, sym, ap, ap₂, ◌∙◌}
 use Rattle.std.proofs.Common.{append_assoc, append-nil}
-use Rattle.std.proofs.lemmas.Bool.Decides.{nat_tests}
 use Rattle.granit_base.specs.Classes.{is_blank, is_break}
 use Rattle.granit_base.specs.Place.{ends_line}
+use Rattle.granit_lexemes.proofs.CharTests.{blank_apart_from_break}
 use Rattle.granit_lexemes.specs.Gap.{Each}
 use Rattle.granit_lexemes.proofs.HereLemmas.{no_line_end}
 use Rattle.granit_lexemes.specs.Folding.{before_lines, lines_of, without_blank, trim_start, before_trimmed, trim_end}
@@ -82,11 +82,6 @@ folds_behind_content k c cs n m =
     ∙ ap (λ ls. break_text k ++ (c ∷ fold (trim_lines ls))) (sym l.are)
 
 -- ---- blanks
-
--- a blank is no break
-pub blank_apart_from_break : (b : ℕ) → is_blank b ≡ true → is_break b ≡ false
-unfolding is_blank is_break
-blank_apart_from_break b y = grind (arith, nat_tests)
 
 blank_start : (b : ℕ) (l : List ℕ) → is_blank b ≡ true → trim_start (b ∷ l) ≡ trim_start l
 blank_start b l y = ap (λ v. without_blank v (b ∷ l) (trim_start l)) y

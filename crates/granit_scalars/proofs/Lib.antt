@@ -1,3 +1,4 @@
+pub mod CommentCauses
 pub mod Comments
 pub mod EscapeCauses
 pub mod Folding

@@ -7,6 +7,7 @@ use Rattle.granit_base.specs.Classes.{is_blank, is_break, hex_value, is_printabl
 use Rattle.granit_base.specs.Place.{Mark}
 use Rattle.granit_base.specs.Written.{Written}
 use Rattle.granit_error.specs.FaultKind.{FaultKind}
+use Rattle.granit_lexemes.proofs.PieceLemmas.{same_error}
 use Rattle.granit_lexemes.specs.Comment.{behind_comment, skipped_comment, comment, past_comment}
 use Rattle.granit_lexemes.specs.Decoding.{letter_value, digit_count, is_high, is_low}
 use Rattle.granit_lexemes.specs.Here.{Here, text_len, next_char, step, past, mark_of}
@@ -30,9 +31,6 @@ pub record IsNameless {Y : Type 0} (r : Result Y Fault) : Type 0 where
 
 pub ok_none : {Y : Type 0} {y : Y} → IsNameless {Y = Y} (Ok y)
 ok_none = record { none = λ f e. absurd cc }
-
-pub same_error : {Y : Type 0} (g f : Fault) → ◌≡◌ {A = Result Y Fault} (Err g) (Err f) → g ≡ f
-same_error g f e = cc
 
 pub err_none : {Y : Type 0} {kind : FaultKind} {mark : Mark} → IsNameless {Y = Y} (fails_at kind mark)
 err_none {kind = kind} {mark = mark} = record {

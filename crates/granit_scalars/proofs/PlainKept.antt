@@ -5,6 +5,7 @@ use Rattle.std.proofs.Common.{add-zero, length-append}
 use Rattle.std.proofs.Math.Bool.{or_assoc, or-false}
 use Rattle.granit_base.specs.Classes.{is_blank, is_break, is_gap}
 use Rattle.granit_base.specs.Place.{first}
+use Rattle.granit_lexemes.proofs.CharTests.{blank_apart_from_break}
 use Rattle.granit_lexemes.specs.Folding.{folded}
 use Rattle.granit_lexemes.specs.Gap.{Each}
 use Rattle.granit_lexemes.specs.Here.{Here, next_char, mark_of, step}
@@ -13,7 +14,7 @@ use Rattle.granit_lexemes.specs.PlainExtent.{Separation, OnLine, Folded, separat
 use Rattle.granit_lexemes.specs.PlainExtent.{IsSeparation, left_tab, over}
 use Rattle.granit_lexemes.specs.Basics.{past_break}
 use Rattle.granit_lexemes.specs.PlainScalar.{PlainState, on_content, on_blank, on_break}
-use Rattle.granit_scalars.proofs.Folding.{folded_behind, blank_apart_from_break, folds_behind_blank, folds_behind_break}
+use Rattle.granit_scalars.proofs.Folding.{folded_behind, folds_behind_blank, folds_behind_break}
 use Rattle.granit_scalars.proofs.Folding.{folds_break}
 use Rattle.granit_scalars.proofs.PlainSpelling.{blanks_gap, separation_gap}
 use Rattle.granit_scalars.proofs.Stepping.{over-append, Seen, column_on, Broken, broken}

@@ -2,9 +2,9 @@
 use Rattle.std.proofs.Common.{◌≡◌, ℕ, ◌==◌, Bool, true, false, not, ◌&&◌, ◌||◌, List, [], ◌∷◌, ◌++◌, refl, sym, ap, ap₂}
 use Rattle.std.proofs.Common.{◌∙◌, subst, append_assoc, append-nil, ◌⊎◌, inl, inr}
 use Rattle.std.specs.Prelude.{slice_index}
-use Rattle.std.proofs.lemmas.Bool.{or_from, or_right}
 use Rattle.granit_base.specs.Classes.{is_blank, is_break, is_breakz, is_blank_or_breakz, is_flow, is_gap, is_z}
 use Rattle.granit_base.specs.Place.{first}
+use Rattle.granit_lexemes.proofs.CharTests.{blank_apart_from_break, blank_gap, break_gap}
 use Rattle.granit_lexemes.specs.Gap.{Each}
 use Rattle.granit_lexemes.specs.LayoutData.{LayoutData}
 use Rattle.granit_base.specs.PlainContent.{is_content}
@@ -13,7 +13,6 @@ use Rattle.granit_lexemes.specs.PlainExtent.{Separation, OnLine, Folded, separat
 use Rattle.granit_lexemes.specs.PlainExtent.{before_break, IsSeparation, MayFollow, GoesOn, ends, goes_on, SpellsPlain}
 use Rattle.granit_lexemes.specs.PlainExtent.{PlainExtent, EndsPlain, nothing_more, colon, flow_indicator, comment}
 use Rattle.granit_lexemes.specs.PlainExtent.{comment_line, outside_line, tab_line, document_mark}
-use Rattle.granit_scalars.proofs.Folding.{blank_apart_from_break}
 
 -- what content is not
 pub record Solid (c : ℕ) : Type 0 where
@@ -71,14 +70,6 @@ solid flow text e =
     record { no_blank = p.0; no_break = p.1; no_z = p.2; no_gap = no_gap_of (first text) p.0 p.1 }
 
 -- ---- separations
-
-blank_gap : (c : ℕ) → is_blank c ≡ true → is_gap c ≡ true
-unfolding is_gap
-blank_gap c y = ap (λ (b : Bool). b || is_break c) y
-
-pub break_gap : (c : ℕ) → is_break c ≡ true → is_gap c ≡ true
-unfolding is_gap
-break_gap c y = or_right (is_blank c) (is_break c) y
 
 pub blanks_gap : (bs : List ℕ) → Each is_blank bs → Each is_gap bs
 blanks_gap [] y = tt

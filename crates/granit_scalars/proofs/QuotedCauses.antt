@@ -2,7 +2,7 @@
 use Rattle.std.proofs.Common.{◌≡◌, ℕ, suc, ◌==◌, Bool, true, false, cond, not, ◌&&◌, ◌||◌, List, [], ◌∷◌, ◌++◌}
 use Rattle.std.proofs.Common.{length, Option, None, Result, Ok, Err, refl, sym, ap, ap₂, ◌∙◌, subst, arith}
 use Rattle.std.specs.Prelude.{slice_index, if◌then◌else◌}
-use Rattle.std.proofs.lemmas.Bool.{cond-true, cond-false}
+use Rattle.std.proofs.lemmas.Bool.{cond-true, cond-false, and_from, and_right}
 use Rattle.std.proofs.lemmas.Bool.Decides.{nat_tests}
 use Rattle.granit_base.specs.Classes.{is_blank, is_break, is_gap, is_printable}
 use Rattle.granit_base.specs.Place.{Mark, first}
@@ -10,8 +10,9 @@ use Rattle.granit_base.specs.Written.{Written}
 use Rattle.granit_error.specs.FaultKind.{FaultKind, TabInIndentation, InvalidIndentation, InvalidQuotedScalarIndent}
 use Rattle.granit_error.specs.FaultKind.{DocumentIndicatorInQuotedScalar, UnclosedQuotedScalar, CommentNotSeparated}
 use Rattle.granit_error.specs.FaultKind.{UnexpectedCharacter}
+use Rattle.granit_lexemes.proofs.CharTests.{blank_no_hash}
 use Rattle.granit_lexemes.specs.Basics.{is_document_mark, fails_at}
-use Rattle.granit_lexemes.specs.Comment.{is_comment_char, CommentRead, comment, IsSpoiled, Spoils, ReadsComment}
+use Rattle.granit_lexemes.specs.Comment.{CommentRead, comment, Spoils, ReadsComment}
 use Rattle.granit_lexemes.specs.Here.{Here, text_len, next_char, mark_of, step}
 use Rattle.granit_lexemes.specs.LayoutData.{LayoutData, is_left}
 use Rattle.granit_lexemes.specs.Moves.{steps}
@@ -29,13 +30,14 @@ use Rattle.granit_lexemes.specs.QuotedScalar.{quoted_content}
 use Rattle.granit_lexemes.specs.QuotedScalar.{quoted_len, quoted_read, quoted_piece, asked_comment, trailing_kind}
 use Rattle.granit_lexemes.specs.QuotedScalar.{may_trail}
 use Rattle.granit_lexemes.specs.QuotedScalar.{quoted_text, behind_quoted, quoted_tail, quoted_scalar}
-use Rattle.granit_lexemes.proofs.HereLemmas.{not_empty}
+use Rattle.granit_lexemes.proofs.HereLemmas.{not_empty, stepped_text}
 use Rattle.granit_lexemes.proofs.PieceLemmas.{pieces_fails}
-use Rattle.granit_scalars.proofs.Comments.{comment_reads, same_run, not_both, no_comment_strange}
+use Rattle.granit_scalars.proofs.CommentCauses.{spoiled_once}
+use Rattle.granit_scalars.proofs.Comments.{comment_reads, not_both}
 use Rattle.granit_scalars.proofs.EscapeCauses.{wrong_escape}
 use Rattle.granit_scalars.proofs.Nameless.{comment_none}
 use Rattle.granit_scalars.proofs.PlainReads.{neither_gap}
-use Rattle.granit_scalars.proofs.QuotedEscapes.{text_behind, over_text}
+use Rattle.granit_scalars.proofs.QuotedEscapes.{over_text}
 use Rattle.granit_scalars.proofs.QuotedForms.{QuotedForm, FrontStands, FormStands, form_value}
 use Rattle.granit_scalars.proofs.QuotedForms.{front_of_form, end_of_form}
 use Rattle.granit_scalars.proofs.QuotedGaps.{gap_runs}
@@ -43,19 +45,12 @@ use Rattle.granit_scalars.proofs.QuotedKept.{StateIs}
 use Rattle.granit_scalars.proofs.QuotedOnce.{run, body, answer_of}
 use Rattle.granit_scalars.proofs.QuotedRuns.{placed, begins_with, backslash_no_gap, backslash_prints}
 use Rattle.granit_scalars.proofs.QuotedRuns.{content_chain, turn_at, no_strictly, no_loosely, inside_runs}
-use Rattle.granit_scalars.proofs.QuotedTail.{tail_past, no_hash, blank_no_hash}
+use Rattle.granit_scalars.proofs.QuotedTail.{tail_past, no_hash}
 use Rattle.granit_scalars.proofs.QuotedTurns.{Placed, closing_is, tab_meets, strict_meets, loose_meets, mark_meets}
 use Rattle.granit_scalars.proofs.QuotedTurns.{QuotedTests, tests_at, turn_on_tests, turn_is}
 use Rattle.granit_scalars.proofs.Stepping.{over-append, seen_as, second_of}
 
 -- ---- comments
-
-one_spoiled : (x cs ds : List ℕ) (c d : ℕ) → IsSpoiled x cs c → IsSpoiled x ds d → (cs ≡ ds) × (c ≡ d)
-one_spoiled x cs ds c d p q =
-    let joined : cs ++ c ∷ p.behind ≡ ds ++ d ∷ q.behind = let e = sym p.spelled ∙ q.spelled in cc in
-    let s = same_run is_comment_char cs ds (c ∷ p.behind) (d ∷ q.behind) joined p.text q.text
-    (no_comment_strange c p.unprintable) (no_comment_strange d q.unprintable) in
-    (s.0, ap first s.1)
 
 -- a comment that isn't printable is refused
 comment_refused : (h : Here) (kind : FaultKind) (m : Mark) → Spoils h kind m → comment h ≡ Err (fault_at kind m)
@@ -65,7 +60,7 @@ comment_refused h kind m p = on (comment h) refl (comment_reads h (ap first p.sp
     on (Ok (c, after)) e q =
         absurd (not_both h.unread.text c.text.characters p.front p.character q.spelled p.spelled)
     on (Err f) e q =
-        let one = one_spoiled h.unread.text q.front p.front q.character p.character q.spelled p.spelled in
+        let one = spoiled_once h.unread.text q.front p.front q.character p.character q.spelled p.spelled in
         let kinds : f.kind ≡ kind = q.names ∙ ap (λ (c : ℕ). UnexpectedCharacter c) one.1 ∙ sym p.names in
         let marks : f.mark ≡ m =
         q.marks ∙ ap (λ (cs : List ℕ). mark_of (steps (suc (length cs)) h)) one.0 ∙ sym p.marks in
@@ -152,13 +147,6 @@ loosely : (at : LayoutData) (escaped closing : Bool) (column : ℕ) → at.in_fl
 unfolding is_loosely_left
 loosely at escaped closing column p q r y = rw (p, q, r, y) refl
 
-if_line : (line test : Bool) → line ≡ true → test ≡ true → (line && test) ≡ true
-if_line line test p q = rw (p, q) refl
-
-if_none : (line test : Bool) → test ≡ false → (line && test) ≡ false
-if_none true test q = q
-if_none false test q = refl
-
 -- a cause here is what this turn refuses
 module _ (single : Bool) (at : LayoutData) (start : Mark) (s : QuotedState) where
   abbrev Fails : FaultKind → Mark → Type 0
@@ -212,7 +200,7 @@ module _ (single : Bool) (at : LayoutData) (start : Mark) (s : QuotedState) wher
   escape_turn x rest k stand e y no_break w =
       let text = s.here.unread.text in
       let next : next_char s.here ≡ 0x5C = ap first e in
-      let behind = text_behind s.here 0x5C rest e in
+      let behind = stepped_text s.here 0x5C rest e in
       let second : slice_index text 1 ≡ first rest =
       second_of s.here (seen_as s.here 0x5C rest e) ∙ ap first behind in
       let open_one : is_closing single text ≡ false =
@@ -239,27 +227,27 @@ module _ (single : Bool) (at : LayoutData) (start : Mark) (s : QuotedState) wher
       ∙ ap (λ (g : Here). Err (fault_at TabInIndentation (mark_of g))) there
   wrong_turn {left} (strict {column = column} n i f l) k q e there =
       strict_turn (ap (λ (t : List ℕ). is_gap (first t)) e ∙ n)
-      (if_line s.on_new_line (is_strictly_left at s.escaped s.here.place.column) k.1
+      (and_from s.on_new_line (is_strictly_left at s.escaped s.here.place.column) k.1
       (ap₂ (is_strictly_left at) q k.2 ∙ strictly at left column i f l))
       ∙ ap (λ (g : Here). Err (fault_at InvalidIndentation (mark_of g))) there
   wrong_turn {left} (loose {column = column} {rest = rest} n i f l c) k q e there =
       loose_turn (ap (λ (t : List ℕ). is_gap (first t)) e ∙ n)
-      (if_none s.on_new_line (is_strictly_left at s.escaped s.here.place.column)
+      (and_right s.on_new_line (is_strictly_left at s.escaped s.here.place.column)
       (ap₂ (is_strictly_left at) q k.2 ∙ not_strictly at left column i f))
-      (if_line s.on_new_line (is_loosely_left at s.escaped closing s.here.place.column) k.1
+      (and_from s.on_new_line (is_loosely_left at s.escaped closing s.here.place.column) k.1
       (ap₂ (λ b n. is_loosely_left at b closing n) q k.2
       ∙ ap (λ (t : List ℕ). is_loosely_left at left (is_closing single t) column) e
       ∙ loosely at left (is_closing single rest) column i f l c))
       ∙ ap (λ (g : Here). Err (fault_at InvalidQuotedScalarIndent (mark_of g))) there
   wrong_turn {left} (mark {rest = rest} p y) k q e there =
       mark_turn (ap (λ (t : List ℕ). is_gap (first t)) e ∙ mark_no_gap rest y)
-      (if_none s.on_new_line (is_strictly_left at s.escaped s.here.place.column)
+      (and_right s.on_new_line (is_strictly_left at s.escaped s.here.place.column)
       (ap₂ (is_strictly_left at) q k.2 ∙ no_strictly single at left 0 rest p))
-      (if_none s.on_new_line (is_loosely_left at s.escaped closing s.here.place.column)
+      (and_right s.on_new_line (is_loosely_left at s.escaped closing s.here.place.column)
       (ap₂ (λ b n. is_loosely_left at b closing n) q k.2
       ∙ ap (λ (t : List ℕ). is_loosely_left at left (is_closing single t) 0) e
       ∙ no_loosely single at left 0 rest p))
-      (if_line s.on_new_line (s.here.place.column == 0 && is_document_mark s.here.unread.text) k.1
+      (and_from s.on_new_line (s.here.place.column == 0 && is_document_mark s.here.unread.text) k.1
       (ap₂ (λ n (t : List ℕ). n == 0 && is_document_mark t) k.2 e ∙ y))
   wrong_turn (end {x = x} m) k q e there =
       end_turn (placed single at x s k (stands_here x q e m) (ap (λ (t : List ℕ). is_gap (first t)) e ∙ gap_nul))
@@ -282,7 +270,7 @@ inside_refused : (single : Bool) (at : LayoutData) (h : Here) (x : QuotedForm) (
 unfolding quoted_scalar
 inside_refused single at h x kind m front w =
     let there : (step h).unread.text ≡ x.source ++ (x.gap ++ x.rest) =
-    text_behind h (quote_char single) (x.source ++ (x.gap ++ x.rest)) front.whole in
+    stepped_text h (quote_char single) (x.source ++ (x.gap ++ x.rest)) front.whole in
     let past = over x.source (step h) in
     let text_past = over_text x.source (x.gap ++ x.rest) (step h) there in
     let r = gap_runs single at (mark_of h) x.left past front.separated text_past in

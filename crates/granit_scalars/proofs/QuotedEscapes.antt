@@ -1,6 +1,6 @@
 -- What is read behind a backslash: an escape, or what is wrong there.
 use Rattle.std.proofs.Common.{◌≡◌, ℕ, zero, suc, ◌+◌, ◌*◌, ◌<◌, Bool, true, false, ◌==◌, ◌&&◌, List, [], ◌∷◌, ◌++◌}
-use Rattle.std.proofs.Common.{length, drop, refl, sym, ap, ap₂, ◌∙◌, subst, arith, append_assoc, Option, Some, None}
+use Rattle.std.proofs.Common.{length, refl, sym, ap, ap₂, ◌∙◌, subst, arith, append_assoc, Option, Some, None}
 use Rattle.std.proofs.Common.{Result, Ok, Err, ◌⊎◌, inl, inr}
 use Rattle.std.specs.Prelude.{slice_index, if◌then◌else◌}
 use Rattle.std.proofs.lemmas.Bool.{cond-true, cond-false, and_parts}
@@ -24,12 +24,8 @@ use Rattle.granit_lexemes.specs.QuotedScalar.{digits_or, joined_or, second_half_
 use Rattle.granit_lexemes.specs.QuotedScalar.{escape_or}
 use Rattle.granit_lexemes.proofs.DecodingLemmas.{no_hex_nul, no_letter_nul, no_count_nul, number_letter, u_wants_four}
 use Rattle.granit_lexemes.proofs.DecodingLemmas.{four_digits, half_is_none, begins_second, digit_below}
-use Rattle.granit_lexemes.proofs.HereLemmas.{step_text}
-use Rattle.granit_scalars.proofs.Comments.{none_dropped}
+use Rattle.granit_lexemes.proofs.HereLemmas.{stepped_text}
 use Rattle.granit_scalars.proofs.Stepping.{over-append, Seen, seen, seen_as}
-
-pub text_behind : (h : Here) (c : ℕ) (t : List ℕ) → h.unread.text ≡ c ∷ t → (step h).unread.text ≡ t
-text_behind h c t e = step_text h ∙ ap (drop 1) e ∙ none_dropped t
 
 -- ---- which numbers stand for no character
 
@@ -186,7 +182,7 @@ second_if : (start : Mark) (high : ℕ) (h : Here) (b : Bool)
     else fails_at MissingLowSurrogate start)
 second_if start high h true y =
     let s = begins_second h.unread.text y in
-    second_digits start high h s.0 s.1 (sym (text_behind (step h) 0x75 s.0 (text_behind h 0x5C (0x75 ∷ s.0) s.1)))
+    second_digits start high h s.0 s.1 (sym (stepped_text (step h) 0x75 s.0 (stepped_text h 0x5C (0x75 ∷ s.0) s.1)))
     (digits_or InvalidLowSurrogateHexEscape start 4 0 (step (step h)))
     (reads_digits InvalidLowSurrogateHexEscape start 4 0 (step (step h)))
 second_if start high h false y = (refl, λ ds a p. no_second ds h.unread.text a p y)
@@ -349,7 +345,7 @@ digits_are kind start (d ∷ ds) t n h e y =
     let next : next_char h ≡ d = ap first e in
     cond-true (is_hex (next_char h)) _ _ (ap is_hex next ∙ y.0)
     ∙ ap (λ m. digits_or kind start (length ds) (n * 16 + hex_value m) (step h)) next
-    ∙ digits_are kind start ds t (n * 16 + hex_value d) (step h) (text_behind h d (ds ++ t) e) y.1
+    ∙ digits_are kind start ds t (n * 16 + hex_value d) (step h) (stepped_text h d (ds ++ t) e) y.1
 
 pub counted : (kind : FaultKind) (start : Mark) (count : ℕ) (ds t : List ℕ) (h : Here) → h.unread.text ≡ ds ++ t
     → AreDigits count ds → digits_or kind start count 0 h ≡ Ok (number_of ds, over ds h)
@@ -358,7 +354,7 @@ counted kind start count ds t h e a =
 
 pub over_text : (cs t : List ℕ) (h : Here) → h.unread.text ≡ cs ++ t → (over cs h).unread.text ≡ t
 over_text [] t h e = e
-over_text (c ∷ cs) t h e = over_text cs t (step h) (text_behind h c (cs ++ t) e)
+over_text (c ∷ cs) t h e = over_text cs t (step h) (stepped_text h c (cs ++ t) e)
 
 second_is : (start : Mark) (high : ℕ) (low t : List ℕ) (h : Here) → h.unread.text ≡ 0x5C ∷ 0x75 ∷ (low ++ t)
     → AreDigits 4 low → is_low (number_of low) ≡ true
@@ -369,7 +365,7 @@ second_is start high low t h e a y =
     && slice_index l 1 == 0x75) e)
     ∙ ap (λ r. r >>= λ x. joined_or start high x.0 x.1)
     (counted InvalidLowSurrogateHexEscape start 4 low t (step (step h))
-    (text_behind (step h) 0x75 (low ++ t) (text_behind h 0x5C (0x75 ∷ (low ++ t)) e)) a)
+    (stepped_text (step h) 0x75 (low ++ t) (stepped_text h 0x5C (0x75 ∷ (low ++ t)) e)) a)
     ∙ cond-true (is_low (number_of low)) _ _ y
 
 numbered_is : (start : Mark) (count n : ℕ) (h : Here) → scalar n ≡ true → numbered_or start count n h ≡ Ok (n, h)
@@ -393,24 +389,24 @@ by_digits start h l count ds t e y a =
     let next : next_char h ≡ l = ap first e in
     ap₂ (λ v w. escape_or_by start v w h) (ap letter_value next ∙ number_letter l count y) (ap digit_count next ∙ y)
     ∙ ap (λ r. r >>= λ x. numbered_or start count x.0 x.1)
-    (counted InvalidQuotedScalarHexEscape start count ds t (step h) (text_behind h l (ds ++ t) e) a)
+    (counted InvalidQuotedScalarHexEscape start count ds t (step h) (stepped_text h l (ds ++ t) e) a)
 
 -- an escape that stands there is read
 pub escape_is : (start : Mark) (e : List ℕ) (c : ℕ) (t : List ℕ) (h : Here) → Escape e c → h.unread.text ≡ e ++ t
     → escape_or start (step h) ≡ Ok (c, over e h)
 escape_is start e c t h (letter {l = l} y) is =
-    by_letter start (step h) c (ap (λ (s : List ℕ). letter_value (first s)) (text_behind h 0x5C (l ∷ t) is) ∙ y)
+    by_letter start (step h) c (ap (λ (s : List ℕ). letter_value (first s)) (stepped_text h 0x5C (l ∷ t) is) ∙ y)
 escape_is start e c t h (number {l = l} {count = count} {digits = ds} y a v) is =
-    by_digits start (step h) l count ds t (text_behind h 0x5C (l ∷ (ds ++ t)) is) y a
+    by_digits start (step h) l count ds t (stepped_text h 0x5C (l ∷ (ds ++ t)) is) y a
     ∙ numbered_is start count (number_of ds) (over ds (step (step h))) v
 escape_is start e c t h (halves {high = high} {low = low} a p b q) is =
     let there : h.unread.text ≡ 0x5C ∷ 0x75 ∷ (high ++ (0x5C ∷ 0x75 ∷ (low ++ t))) = is
     ∙ ap (λ (s : List ℕ). 0x5C ∷ 0x75 ∷ s) (append_assoc high (0x5C ∷ 0x75 ∷ low) t) in
-    let letter_on = text_behind h 0x5C (0x75 ∷ (high ++ (0x5C ∷ 0x75 ∷ (low ++ t)))) there in
+    let letter_on = stepped_text h 0x5C (0x75 ∷ (high ++ (0x5C ∷ 0x75 ∷ (low ++ t)))) there in
     by_digits start (step h) 0x75 4 high (0x5C ∷ 0x75 ∷ (low ++ t)) letter_on u_wants_four a
     ∙ numbered_half start (number_of high) (over high (step (step h))) p
     ∙ second_is start (number_of high) low t (over high (step (step h)))
     (over_text high (0x5C ∷ 0x75 ∷ (low ++ t)) (step (step h))
-    (text_behind (step h) 0x75 (high ++ (0x5C ∷ 0x75 ∷ (low ++ t))) letter_on)) b q
+    (stepped_text (step h) 0x75 (high ++ (0x5C ∷ 0x75 ∷ (low ++ t))) letter_on)) b q
     ∙ ap (λ g. Ok (joined (number_of high) (number_of low), g))
     (sym (over-append high (0x5C ∷ 0x75 ∷ low) (step (step h))))

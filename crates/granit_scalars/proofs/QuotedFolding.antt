@@ -4,6 +4,7 @@ use Rattle.std.proofs.Common.{ap₂, ◌∙◌, subst, arith, append_assoc, appe
 use Rattle.std.proofs.lemmas.Bool.Decides.{nat_tests}
 use Rattle.granit_base.specs.Classes.{is_blank, is_break, is_gap, is_printable}
 use Rattle.granit_base.specs.Place.{first}
+use Rattle.granit_lexemes.proofs.CharTests.{blank_apart_from_break}
 use Rattle.granit_lexemes.specs.Decoding.{Escape, letter, number, halves}
 use Rattle.granit_lexemes.specs.Folding.{before_lines, lines_of, break_text, fold, trim_lines, folded}
 use Rattle.granit_lexemes.specs.Gap.{Each}
@@ -14,7 +15,7 @@ use Rattle.granit_lexemes.specs.QuotedExtent.{break, Between, Blanks, Lines, Sep
 use Rattle.granit_lexemes.specs.QuotedExtent.{between_text, Piece, itself, doubled, escape}
 use Rattle.granit_lexemes.specs.QuotedScalar.{is_literal, is_simple}
 use Rattle.granit_lexemes.specs.QuotedExtent.{before_break, Inside, nothing, content, QuotedStands, quoted_value}
-use Rattle.granit_scalars.proofs.Folding.{folded_behind, IsBreak, blank_apart_from_break, in_first_line, folds_blanks}
+use Rattle.granit_scalars.proofs.Folding.{folded_behind, IsBreak, in_first_line, folds_blanks}
 use Rattle.granit_scalars.proofs.Folding.{folds_break, folds_behind_blank, folds_behind_break, folds_behind_content}
 use Rattle.granit_scalars.proofs.PlainReads.{neither_gap}
 
@@ -46,7 +47,7 @@ folded_gap_folds {behind = behind} {empty = empty} (folded_gap {text = text} bla
     ∙ folds_break blanks brk (text ++ behind) each (one_is_break one) ∙ newline_folds more 0
     ∙ ap (λ n. folded_behind n behind) e
 
-blanks_are : {at : LayoutData} {gap behind blanks : List ℕ} → Separates at gap behind (Blanks blanks)
+pub blanks_are : {at : LayoutData} {gap behind blanks : List ℕ} → Separates at gap behind (Blanks blanks)
     → (gap ≡ blanks) × Each is_blank blanks
 blanks_are (on_line each) = (refl, each)
 
@@ -102,7 +103,7 @@ end_folds {gap = gap} (Lines empty column) p = ap folded (sym (append-nil gap)) 
 
 -- ---- content
 
-each_behind : (test : ℕ → Bool) (front text : List ℕ) → Each test (front ++ text) → Each test text
+pub each_behind : (test : ℕ → Bool) (front text : List ℕ) → Each test (front ++ text) → Each test text
 each_behind test [] text e = e
 each_behind test (c ∷ front) text e = each_behind test front text e.1
 
@@ -168,7 +169,7 @@ inside_folds {single} {at} (content {behind = behind} {gap = gap} {piece = piece
       rest.1,
     )
 
-each_front : (test : ℕ → Bool) (front text : List ℕ) → Each test (front ++ text) → Each test front
+pub each_front : (test : ℕ → Bool) (front text : List ℕ) → Each test (front ++ text) → Each test front
 each_front test [] text e = tt
 each_front test (c ∷ front) text e = (e.0, each_front test front text e.1)
 

@@ -3,9 +3,10 @@ use Rattle.std.proofs.Common.{◌≡◌, ℕ, suc, ◌+◌, ◌==◌, Bool, true
 use Rattle.std.proofs.Common.{ap, ap₂, ◌∙◌, subst, arith, append_assoc, append-nil, add-zero}
 use Rattle.std.specs.Prelude.{slice_index, if◌then◌else◌}
 use Rattle.std.proofs.lemmas.Bool.{and_left}
-use Rattle.std.proofs.lemmas.Bool.Decides.{nat_tests}
 use Rattle.granit_base.specs.Classes.{is_blank, is_break}
 use Rattle.granit_base.specs.Place.{Mark, first}
+use Rattle.granit_lexemes.proofs.CharTests.{blank_apart_from_break, no_blank_break}
+use Rattle.granit_lexemes.proofs.HereLemmas.{stepped_text}
 use Rattle.granit_lexemes.specs.Gap.{Each}
 use Rattle.granit_lexemes.specs.Here.{Here, next_char, step}
 use Rattle.granit_lexemes.specs.LayoutData.{LayoutData}
@@ -16,9 +17,8 @@ use Rattle.granit_lexemes.specs.QuotedExtent.{break, Between, Lines, Separates, 
 use Rattle.granit_lexemes.specs.QuotedScalar.{QuotedState, is_tab_left, quoted_at, over_blank, over_break}
 use Rattle.granit_lexemes.specs.QuotedScalar.{quoted_turn, quoted_len, quoted_rest}
 use Rattle.granit_lexemes.proofs.PieceLemmas.{with_front-nil, pieces_more}
-use Rattle.granit_scalars.proofs.Folding.{blank_apart_from_break}
 use Rattle.granit_scalars.proofs.PlainKept.{one_more}
-use Rattle.granit_scalars.proofs.QuotedEscapes.{text_behind, over_text}
+use Rattle.granit_scalars.proofs.QuotedEscapes.{over_text}
 use Rattle.granit_scalars.proofs.QuotedKept.{StateIs, is_line_blank, is_indent_blank, is_first_break, is_further_break}
 use Rattle.granit_scalars.proofs.QuotedTurns.{tab_meets, tests_at, turn_on_tests, turn_is}
 use Rattle.granit_scalars.proofs.QuotedTurns.{quoted_shortens}
@@ -31,10 +31,6 @@ blank_turn : (single : Bool) (at : LayoutData) (start : Mark) (s : QuotedState) 
 blank_turn single at start s y n =
     turn_is single at start s
     ∙ ap₂ (λ a t. turn_on_tests single start s (record (tests_at single at s) { blank = a; tab = t })) y n
-
-no_blank_break : (c : ℕ) → is_break c ≡ true → is_blank c ≡ false
-unfolding is_blank is_break
-no_blank_break c y = grind (arith, nat_tests)
 
 break_turn : (single : Bool) (at : LayoutData) (start : Mark) (s : QuotedState) → is_break (next_char s.here) ≡ true
     → quoted_turn single at start s ≡ Ok (Some [], over_break s)
@@ -104,7 +100,7 @@ newline_runs single at start {column} (blank {text = text} {behind = behind} b y
     let after = record s { here = step s.here } in
     let moved : (step s.here).place.column ≡ suc column = column_on s.here there
     (blank_apart_from_break (next_char s.here) is_one) ∙ ap (λ n. n + 1) i.2 ∙ omega arith in
-    let r = newline_runs single at start more after k (i.0, i.1, moved) (text_behind s.here b (text ++ behind) e) in
+    let r = newline_runs single at start more after k (i.0, i.1, moved) (stepped_text s.here b (text ++ behind) e) in
     record {
       after = r.after;
       same = onward single at start s (over_blank s) after
@@ -153,7 +149,7 @@ line_runs single at start (b ∷ blanks) behind s y n e =
     let next : next_char s.here ≡ b = ap first e in
     let is_one : is_blank (next_char s.here) ≡ true = ap is_blank next ∙ y.0 in
     let after = record s { here = step s.here; pending = s.pending ++ next_char s.here ∷ [] } in
-    let r = line_runs single at start blanks behind after y.1 n (text_behind s.here b (blanks ++ behind) e) in
+    let r = line_runs single at start blanks behind after y.1 n (stepped_text s.here b (blanks ++ behind) e) in
     record {
       after = r.after;
       same = onward single at start s (over_blank s) after

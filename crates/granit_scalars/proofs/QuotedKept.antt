@@ -5,6 +5,7 @@ use Rattle.std.specs.Prelude.{slice_index, if◌then◌else◌}
 use Rattle.std.proofs.lemmas.Bool.Decides.{nat_tests}
 use Rattle.granit_base.specs.Classes.{is_blank, is_break}
 use Rattle.granit_base.specs.Place.{first}
+use Rattle.granit_lexemes.proofs.CharTests.{blank_apart_from_break, is_break_lf}
 use Rattle.granit_lexemes.specs.Here.{Here, next_char, step}
 use Rattle.granit_lexemes.specs.LayoutData.{LayoutData}
 use Rattle.granit_lexemes.specs.PlainExtent.{over}
@@ -15,7 +16,6 @@ use Rattle.granit_lexemes.specs.QuotedExtent.{between_text}
 use Rattle.granit_lexemes.specs.QuotedScalar.{QuotedState, is_tab_left, between_quoted, quoted_at, over_blank}
 use Rattle.granit_lexemes.specs.QuotedScalar.{over_break}
 use Rattle.granit_lexemes.proofs.HereLemmas.{not_empty}
-use Rattle.granit_scalars.proofs.Folding.{blank_apart_from_break}
 use Rattle.granit_scalars.proofs.PlainKept.{one_more_blank, over_one, text_one, one_more}
 use Rattle.granit_scalars.proofs.PlainTurns.{seen_blank}
 use Rattle.granit_scalars.proofs.QuotedTurns.{tab_meets}
@@ -105,10 +105,6 @@ lf_or h s y e false f =
       text = s.is;
       is = refl;
     }
-
-is_break_lf : is_break 0x0A ≡ true
-unfolding is_break
-is_break_lf = refl
 
 one_broken_if : (h : Here) → Seen h → is_break (next_char h) ≡ true → (b : Bool)
     → (next_char h == 0x0D && slice_index h.unread.text 1 == 0x0A) ≡ b

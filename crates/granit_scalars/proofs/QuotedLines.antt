@@ -12,6 +12,7 @@ use lib.Utf8.{scalar}
 use mathlib.Core.Bool.{true≢false}
 use Rattle.granit_base.specs.Classes.{is_blank, is_break, is_gap, is_printable}
 use Rattle.granit_base.specs.Place.{first, ends_line}
+use Rattle.granit_lexemes.proofs.CharTests.{blank_apart_from_break}
 use Rattle.granit_lexemes.specs.Decoding.{digit_count, number_of, is_high, joined, AreDigits}
 use Rattle.granit_lexemes.specs.Decoding.{Escape, letter, number, halves}
 use Rattle.granit_lexemes.specs.Gap.{Each}
@@ -20,16 +21,15 @@ use Rattle.granit_lexemes.specs.LayoutData.{LayoutData}
 use Rattle.granit_lexemes.specs.QuotedScalar.{quote_char, is_closing}
 use Rattle.granit_lexemes.specs.QuotedExtent.{OneBreak, line_feed, pair, carriage_return, NewLine, no_more, blank}
 use Rattle.granit_lexemes.specs.QuotedExtent.{break}
-use Rattle.granit_lexemes.specs.QuotedExtent.{Between, Blanks, Lines, Separates, on_line, folded, lines_text}
+use Rattle.granit_lexemes.specs.QuotedExtent.{Between, Blanks, Lines, Separates, folded, lines_text}
 use Rattle.granit_lexemes.specs.QuotedExtent.{between_text}
 use Rattle.granit_lexemes.specs.QuotedExtent.{Piece, itself, doubled, escape, before_break}
 use Rattle.granit_lexemes.specs.QuotedScalar.{is_literal, is_simple}
 use Rattle.granit_lexemes.specs.QuotedExtent.{Inside, nothing, content, QuotedStands, quoted_value}
 use Rattle.granit_lexemes.proofs.DecodingLemmas.{number_letter, u_wants_four, half_is_none}
 use Rattle.granit_scalars.proofs.Comments.{none_dropped}
-use Rattle.granit_scalars.proofs.Folding.{blank_apart_from_break}
 use Rattle.granit_scalars.proofs.PlainReads.{neither_gap}
-use Rattle.granit_scalars.proofs.QuotedFolding.{swap, literal_gap}
+use Rattle.granit_scalars.proofs.QuotedFolding.{swap, literal_gap, blanks_are as blanks_of}
 use Rattle.granit_scalars.proofs.QuotedRuns.{no_break_behind, quote_no_gap, backslash_no_gap}
 use Rattle.granit_scalars.specs.QuotedLines.{QuotedItem, Blank, Shown, Joins, Break, escape_by, escape_of, number_by}
 use Rattle.granit_scalars.specs.QuotedLines.{front_by, front, items}
@@ -487,10 +487,6 @@ lines_before {behind = behind} (folded {text = text} {empty = empty} blanks brk 
     ∙ begins_break escaped blanks r (items single 0 (text ++ behind)) each (λ y. subst
     (λ (t : List ℕ). is_break (first t) ≡ true) there (f y))
     ∙ further_line more single escaped 0 ∙ ap (λ n. after escaped n (items single 0 behind)) e
-
-blanks_of : {at : LayoutData} {gap behind blanks : List ℕ} → Separates at gap behind (Blanks blanks)
-    → (gap ≡ blanks) × Each is_blank blanks
-blanks_of (on_line each) = (refl, each)
 
 gap_then : {at : LayoutData} {gap behind : List ℕ} (x : Between) → Separates at gap behind x
     → (single escaped : Bool) (i : QuotedItem) (rest : List QuotedItem) → items single 0 behind ≡ i ∷ rest → IsContent i

@@ -3,6 +3,7 @@ use Rattle.std.proofs.Common.{◌≡◌, ℕ, Bool, false, List, [], ◌++◌, R
 use Rattle.std.proofs.Common.{append-nil}
 use Rattle.std.proofs.lemmas.List.{append_cancel_right}
 use Rattle.granit_base.specs.Written.{Written}
+use Rattle.granit_lexemes.proofs.HereLemmas.{stepped_text}
 use Rattle.granit_lexemes.specs.Here.{Here, mark_of, step}
 use Rattle.granit_lexemes.specs.LayoutData.{LayoutData}
 use Rattle.granit_lexemes.specs.Outcome.{Fault, ◌>>=◌}
@@ -11,7 +12,7 @@ use Rattle.granit_lexemes.specs.PlainExtent.{over}
 use Rattle.granit_lexemes.specs.QuotedExtent.{quoted_end, quoted_value, AnswersQuoted}
 use Rattle.granit_lexemes.specs.QuotedScalar.{QuotedState, QuotedRead, quote_char, between_quoted, quoted_at}
 use Rattle.granit_lexemes.specs.QuotedScalar.{quoted_read, quoted_text, quoted_tail, quoted_scalar, quoted_rest}
-use Rattle.granit_scalars.proofs.QuotedEscapes.{text_behind, over_text}
+use Rattle.granit_scalars.proofs.QuotedEscapes.{over_text}
 use Rattle.granit_scalars.proofs.QuotedForms.{QuotedForm, FormStands, form_value}
 use Rattle.granit_scalars.proofs.QuotedRuns.{inside_runs, closes}
 use Rattle.granit_scalars.proofs.QuotedTail.{tail_answers}
@@ -34,7 +35,7 @@ pub body : (single : Bool) (at : LayoutData) (h : Here) (x : QuotedForm) → For
     → Body single at h x
 body single at h x p =
     let front = p.front in
-    let there : (step h).unread.text ≡ x.source ++ (x.gap ++ x.rest) = text_behind h (quote_char single)
+    let there : (step h).unread.text ≡ x.source ++ (x.gap ++ x.rest) = stepped_text h (quote_char single)
     (x.source ++ (x.gap ++ x.rest)) front.whole in
     let past = over x.source (step h) in
     let up = closes single at (mark_of h) x.left past front.separated
@@ -97,7 +98,7 @@ same_body given text other last after e f =
 
 form_text : (single : Bool) (at : LayoutData) (h : Here) (x : QuotedForm) → FormStands single at h x
     → (step h).unread.text ≡ (x.source ++ x.gap) ++ x.rest
-form_text single at h x p = text_behind h (quote_char single) (x.source ++ (x.gap ++ x.rest)) p.front.whole
+form_text single at h x p = stepped_text h (quote_char single) (x.source ++ (x.gap ++ x.rest)) p.front.whole
     ∙ sym (append_assoc x.source x.gap x.rest)
 
 -- what stands between the quotes, what it spells, and what stands behind it are known by where it stands

@@ -2,8 +2,9 @@
 use Rattle.std.proofs.Common.{◌≡◌, ℕ, ◌==◌, Bool, true, false, not, ◌&&◌, ◌||◌, List, [], ◌∷◌, ◌++◌, length, Option}
 use Rattle.std.proofs.Common.{Result, Ok, Err, refl, sym, ap, ap₂, ◌∙◌, subst, arith, append_assoc, append-nil}
 use Rattle.std.specs.Prelude.{slice_index}
-use Rattle.std.proofs.lemmas.Bool.{and_parts}
+use Rattle.std.proofs.lemmas.Bool.{and_parts, eqb-true}
 use Rattle.std.proofs.lemmas.Bool.Decides.{nat_tests}
+use Rattle.std.proofs.lemmas.List.{nil_from_length}
 use Rattle.granit_base.specs.Classes.{is_break, is_gap, is_printable}
 use Rattle.granit_base.specs.Place.{Mark, first}
 use Rattle.granit_error.specs.FaultKind.{InvalidIndentation, UnclosedQuotedScalar, DocumentIndicatorInQuotedScalar}
@@ -22,7 +23,6 @@ use Rattle.granit_lexemes.specs.QuotedExtent.{WrongInside, tab, strict, loose, m
 use Rattle.granit_lexemes.specs.QuotedScalar.{QuotedState, quote_char, is_closing, is_tab_left, is_strictly_left}
 use Rattle.granit_lexemes.specs.QuotedScalar.{is_loosely_left, between_quoted, quoted_at, over_blank, over_break}
 use Rattle.granit_lexemes.specs.QuotedScalar.{quoted_piece, quoted_content, quoted_turn, quoted_len, escape_or}
-use Rattle.granit_lexemes.proofs.HereLemmas.{not_empty}
 use Rattle.granit_scalars.proofs.PlainReads.{not_right}
 use Rattle.granit_scalars.proofs.QuotedEscapes.{ReadsEscape, reads_escape}
 use Rattle.granit_scalars.proofs.QuotedForms.{QuotedForm}
@@ -305,15 +305,11 @@ wrong_mark single at start s n l y (Lines empty column) k =
     (Lines empty n) s.here.unread.text s.here DocumentIndicatorInQuotedScalar start) (sym none ∙ k.2)
     (mark (not_misplaced single at s 0 k.1 none n l) p.1)
 
-pub no_text : (t : List ℕ) → (length t == 0) ≡ true → t ≡ []
-no_text [] y = refl
-no_text (c ∷ t) y = absurd (let n = not_empty c t in cc)
-
 wrong_end : (single : Bool) (at : LayoutData) (start : Mark) (s : QuotedState) → Placed single at s
     → (text_len s.here == 0) ≡ true → (x : Between) → StateIs x s
     → WrongInside single at start s.escaped x s.here.unread.text s.here UnclosedQuotedScalar start
 wrong_end single at start s p y x k =
-    let none = no_text s.here.unread.text y in
+    let none = nil_from_length s.here.unread.text (eqb-true (length s.here.unread.text) 0 y) in
     subst (λ (t : List ℕ). WrongInside single at start s.escaped x t s.here UnclosedQuotedScalar start) (sym none)
     (end (subst (MayStand single at s.escaped x) none (may_stand single at x s k p)))
 

@@ -8,6 +8,7 @@ use Rattle.granit_base.specs.Classes.{is_blank, is_printable}
 use Rattle.granit_base.specs.Place.{Mark, first}
 use Rattle.granit_base.specs.Written.{Written}
 use Rattle.granit_error.specs.FaultKind.{CommentNotSeparated, UnexpectedCharacter}
+use Rattle.granit_lexemes.proofs.CharTests.{blank_no_hash}
 use Rattle.granit_lexemes.specs.Comment.{CommentRead, comment, ReadsComment}
 use Rattle.granit_lexemes.specs.Gap.{Each}
 use Rattle.granit_lexemes.specs.Here.{Here, next_char, mark_of, step, text_len, past}
@@ -20,9 +21,9 @@ use Rattle.granit_lexemes.specs.QuotedExtent.{nothing as trails_nothing, WrongBe
 use Rattle.granit_lexemes.specs.QuotedExtent.{comment as wrong_comment, character, trailing_single, trailing_double}
 use Rattle.granit_lexemes.specs.QuotedScalar.{QuotedRead, quoted_read, asked_comment, trailing_kind, may_trail}
 use Rattle.granit_lexemes.specs.QuotedScalar.{behind_quoted, quoted_tail}
-use Rattle.granit_lexemes.proofs.HereLemmas.{past_goes, past_stops}
+use Rattle.granit_lexemes.proofs.HereLemmas.{past_goes, past_stops, stepped_text}
 use Rattle.granit_scalars.proofs.Comments.{comment_reads, comment_answered}
-use Rattle.granit_scalars.proofs.QuotedEscapes.{text_behind, over_text}
+use Rattle.granit_scalars.proofs.QuotedEscapes.{over_text}
 use Rattle.granit_scalars.proofs.QuotedTurns.{seen_there}
 
 -- ---- blanks
@@ -58,7 +59,7 @@ past_blanks : (blanks rest : List ℕ) (h : Here) → h.unread.text ≡ blanks +
 past_blanks [] rest h e y n = past_stops is_blank h (ap (λ (t : List ℕ). is_blank (first t)) e ∙ n)
 past_blanks (b ∷ blanks) rest h e y n =
     sym (past_goes is_blank h is_blank_nul (ap (λ (t : List ℕ). is_blank (first t)) e ∙ y.0))
-    ∙ past_blanks blanks rest (step h) (text_behind h b (blanks ++ rest) e) y.1 n
+    ∙ past_blanks blanks rest (step h) (stepped_text h b (blanks ++ rest) e) y.1 n
 
 -- ---- what is read is there
 
@@ -182,10 +183,6 @@ tail_reads single at start value h =
     (next_char h == 0x23) refl)
 
 -- ---- what may stand there is read
-
-pub blank_no_hash : (b : ℕ) → is_blank b ≡ true → (b == 0x23) ≡ false
-unfolding is_blank
-blank_no_hash b y = grind (arith, nat_tests)
 
 pub tail_past : (single : Bool) (at : LayoutData) (start : Mark) (value : Written) (h : Here) (blanks rest : List ℕ)
     → BlanksBehind h blanks rest → (next_char h == 0x23) ≡ false

@@ -5,13 +5,13 @@ use Rattle.std.specs.Prelude.{slice_index, if◌then◌else◌}
 use Rattle.std.proofs.lemmas.Bool.Decides.{nat_tests}
 use Rattle.granit_base.specs.Classes.{is_break}
 use Rattle.granit_base.specs.Place.{Place, first, past_first, ends_line, place_after}
+use Rattle.granit_lexemes.proofs.CharTests.{break_gap, is_break_lf}
 use Rattle.granit_lexemes.specs.Folding.{before_lines, lines_of}
 use Rattle.granit_lexemes.specs.Here.{Here, text_len, next_char, begins_behind, tab_behind, step}
 use Rattle.granit_lexemes.specs.PlainExtent.{UpToBreak, at_break, before_break, over}
 use Rattle.granit_lexemes.specs.Basics.{past_break}
 use Rattle.granit_lexemes.proofs.HereLemmas.{not_empty, step_text, step_len, step_lends, no_line_end}
 use Rattle.granit_scalars.proofs.Folding.{IsBreak}
-use Rattle.granit_scalars.proofs.PlainSpelling.{break_gap}
 
 pub over-append : (a b : List ℕ) (h : Here) → over (a ++ b) h ≡ over b (over a h)
 over-append [] b h = refl
@@ -88,7 +88,7 @@ pub record Broken (h after : Here) : Type 0 where
   pub head : (t : List ℕ) → first (characters ++ t) ≡ next_char h
   pub breaks : (t : List ℕ) → first t ≡ next_char after → IsBreak characters t
 
-line_ends_as : (p q r : Bool) → (p || q) ≡ true → (q && r) ≡ false → (p || (q && not r)) ≡ true
+pub line_ends_as : (p q r : Bool) → (p || q) ≡ true → (q && r) ≡ false → (p || (q && not r)) ≡ true
 line_ends_as true q r e f = refl
 line_ends_as false true true e f = cc
 line_ends_as false true false e f = refl
@@ -113,10 +113,6 @@ two_break t = refl
 is_break_cr : is_break 0x0D ≡ true
 unfolding is_break
 is_break_cr = refl
-
-is_break_lf : is_break 0x0A ≡ true
-unfolding is_break
-is_break_lf = refl
 
 pub is_break_nul : is_break 0 ≡ false
 unfolding is_break

@@ -1,10 +1,12 @@
 -- The test of what stands up to the closing quote says whether what stands between the quotes is kept as it is.
-use Rattle.std.proofs.Common.{◌≡◌, ℕ, ◌==◌, Bool, true, false, ◌&&◌, ◌||◌, List, [], ◌∷◌, ◌++◌, refl, sym, ap, ap₂}
+use Rattle.std.proofs.Common.{◌≡◌, ℕ, Bool, true, false, ◌&&◌, ◌||◌, List, [], ◌∷◌, ◌++◌, refl, sym, ap, ap₂}
 use Rattle.std.proofs.Common.{◌∙◌, append_assoc, arith}
+use Rattle.std.proofs.lemmas.Bool.{or_right}
 use Rattle.std.specs.Prelude.{if◌then◌else◌}
 use Rattle.std.specs.List.{list_all}
 use Rattle.std.proofs.lemmas.Bool.Decides.{nat_tests}
 use Rattle.granit_base.specs.Classes.{is_blank, is_break, is_gap, is_printable}
+use Rattle.granit_lexemes.proofs.CharTests.{backslash_stops}
 use Rattle.granit_lexemes.specs.Decoding.{Escape, letter, number, halves}
 use Rattle.granit_lexemes.specs.Gap.{Each}
 use Rattle.granit_lexemes.specs.Here.{Here, step}
@@ -14,8 +16,7 @@ use Rattle.granit_lexemes.specs.QuotedExtent.{OneBreak, line_feed, pair, carriag
 use Rattle.granit_lexemes.specs.QuotedExtent.{folded, Piece, itself, doubled, escape, before_break, Inside, nothing}
 use Rattle.granit_lexemes.specs.QuotedExtent.{content, QuotedStands, is_unchanged}
 use Rattle.granit_lexemes.specs.QuotedScalar.{quote_char, is_closing, is_literal, is_kept, is_verbatim, quoted_text}
-use Rattle.granit_lexemes.proofs.HereLemmas.{step_lends}
-use Rattle.granit_scalars.proofs.QuotedEscapes.{text_behind}
+use Rattle.granit_lexemes.proofs.HereLemmas.{step_lends, stepped_text}
 
 -- what is found of a front and what stands behind it is what is found of both
 abbrev Parts : Bool → (front behind : List ℕ) → Type 0
@@ -54,10 +55,6 @@ join_parts single front more behind p q =
 
 -- ---- characters
 
-or_right : (a b : Bool) → b ≡ true → (a || b) ≡ true
-or_right true b y = refl
-or_right false b y = y
-
 blank_kept : (single : Bool) (c : ℕ) → is_blank c ≡ true → is_kept single c ≡ true
 blank_kept single c y = ap (λ b. b || is_literal single c) y
 
@@ -76,10 +73,6 @@ quote_stops : (single : Bool) → is_kept single (quote_char single) ≡ false
 unfolding is_blank is_break is_gap is_printable is_literal
 quote_stops true = refl
 quote_stops false = refl
-
-backslash_stops : is_kept false 0x5C ≡ false
-unfolding is_blank is_break is_gap is_printable is_literal
-backslash_stops = refl
 
 backslash_open : (t : List ℕ) → is_closing false (0x5C ∷ t) ≡ false
 unfolding is_closing
@@ -176,7 +169,7 @@ pub verbatim_is : {at : LayoutData} (single : Bool) (h : Here) (source value gap
 verbatim_is single h source value gap left x rest p =
     let all : Parts single (source ++ gap) rest = join_parts single source gap rest (inside_parts p.front.inside)
     (gap_parts single p.front.separated) in
-    ap (is_verbatim single) (text_behind h (quote_char single) (source ++ (gap ++ rest)) p.front.whole
+    ap (is_verbatim single) (stepped_text h (quote_char single) (source ++ (gap ++ rest)) p.front.whole
     ∙ sym (append_assoc source gap rest))
     ∙ all
     ∙ and_true (list_all (is_kept single) (source ++ gap)) (is_verbatim single rest)

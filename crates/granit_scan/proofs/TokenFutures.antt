@@ -1,6 +1,7 @@
 -- What a state will still give of tokens: no turn changes it.
 use Rattle.std.proofs.Common.{◌≡◌, ℕ, ◌<◌, ◌≤◌, ◌&&◌, ◌||◌, not, Bool, true, false, List, [], ◌∷◌, ◌++◌, map}
 use Rattle.std.proofs.Common.{Option, Some, None, Result, Ok, Err, refl, sym, ap, subst, ◌∙◌, arith}
+use Rattle.std.proofs.lemmas.Bool.{and_parts}
 use Rattle.granit_error.specs.OptionsData.{OptionsData}
 use Rattle.granit_lexemes.specs.Lexeme.{Item, OfLexeme, OfComment}
 use Rattle.granit_lexemes.specs.Outcome.{Fault, ◌>>=◌}
@@ -22,7 +23,7 @@ use Rattle.granit_scan.proofs.Shortening.{read_shorter}
 use Rattle.granit_steps.specs.Steps.{asks_next, incoming, is_next_settled, marked_by, may_go, pushed, unflagged}
 use Rattle.granit_steps.specs.Told.{parsers_items}
 use Rattle.granit_steps.proofs.Chains.{LexChain, items_below, pieces_chain}
-use Rattle.granit_steps.proofs.Futures.{AllOld, Ready, and_left, coming, pushed_nil, read_out, rest_of}
+use Rattle.granit_steps.proofs.Futures.{AllOld, Ready, coming, pushed_nil, read_out, rest_of}
 use Rattle.granit_steps.proofs.KeyReads.{IsComment, Items, Lexed, possibles, read_keys}
 use Rattle.granit_steps.proofs.Queues.{IsOld, asked_append, goes_for_ever, not_begun, pushed_append, pushed_front}
 
@@ -81,10 +82,10 @@ front_first : (o : OptionsData) (s : ReaderState) (ended : Bool) (end : Option F
 front_first o s true None i is ready e = over_first o s true None i is refl
 front_first o s true (Some f) i is ready e = absurd (let h = ready.one_end refl in cc)
 front_first o s false (Some f) i is ready e = over_first o s false (Some f) i is
-    (parsers_front s.laid (Some f) i is (and_left (is_settled s.laid i.item) true e))
+    (parsers_front s.laid (Some f) i is (and_parts (is_settled s.laid i.item) true e).0)
 front_first o s false None i is ready e =
     unread_first o s i is (pieces lex_len (lex_turn o) (at_read s)) (at_read s) (pieces_chain o (at_read s) ready.below)
-    ready.old.0 (and_left (is_settled s.laid i.item) (not (asks_next i.item) || is_next_settled s.laid is) e)
+    ready.old.0 (and_parts (is_settled s.laid i.item) (not (asks_next i.item) || is_next_settled s.laid is) e).0
 
 -- ---- a read
 

@@ -1,5 +1,5 @@
 -- The line of the next token places comments and does nothing else.
-use Rattle.std.proofs.Common.{◌≡◌, ℕ, Bool, true, false, List, [], ◌∷◌, ◌++◌, map, Option, Some, None, Result, Ok, Err}
+use Rattle.std.proofs.Common.{◌≡◌, ℕ, Bool, true, false, List, [], ◌∷◌, ◌++◌, map, Option, Some, None, Ok, Err}
 use Rattle.std.proofs.Common.{◌==◌, refl, sym, ap, ◌∙◌}
 use Rattle.std.proofs.lemmas.List.{map-append}
 use Rattle.std.specs.Prelude.{if◌then◌else◌, ◌-◌}
@@ -10,6 +10,7 @@ use Rattle.granit_lexemes.specs.Comment.{CommentRead}
 use Rattle.granit_lexemes.specs.Lexeme.{LexemeKind, Dash, Item, OfLexeme, OfComment}
 use Rattle.granit_lexemes.specs.Outcome.{Fault, ◌>>=◌}
 use Rattle.granit_lexemes.specs.PlainEvent.{PlainEvent, event_at, Comment}
+use Rattle.granit_machine.proofs.ClosingLemmas.{FeedGiven}
 use Rattle.granit_machine.specs.Closing.{close}
 use Rattle.granit_machine.specs.Frames.{Waiting, ParserState}
 use Rattle.granit_machine.specs.Lexing.{FlaggedItem}
@@ -93,10 +94,7 @@ alike_passed (Ok x) (Err g) q p h = absurd (not_both (unplaced x) g p)
 alike_passed (Ok x) (Ok y) q p h =
     (y, refl, sym (same_state (unplaced x) (unplaced y) p) ∙ ap unplaced (same_state x q h))
 
-abbrev Fed : Type 0
-Fed = Result (List PlainEvent × ParserState) Fault
-
-abbrev fed_by : ParserState → Fed
+abbrev fed_by : ParserState → FeedGiven
 fed_by q = Ok (q.given, record q { given = [] })
 
 fed_alike : (r s : Stepped) → unplaced_step r ≡ unplaced_step s
@@ -113,10 +111,10 @@ feed_placed o i next other p =
     fed_alike (take_item o i.item i.begins_key next p) (take_item o i.item i.begins_key other p)
     (item_placed o i.item i.begins_key next other p)
 
-failed_both : (x : List PlainEvent × ParserState) (f : Fault) (r : Fed) → Ok x ≡ r → r ≡ Err f → ⊥
+failed_both : (x : List PlainEvent × ParserState) (f : Fault) (r : FeedGiven) → Ok x ≡ r → r ≡ Err f → ⊥
 failed_both x f r p q = cc
 
-pub feed_fault : (r s : Fed) (f : Fault) → unplaced_after r ≡ unplaced_after s → r ≡ Err f → s ≡ Err f
+pub feed_fault : (r s : FeedGiven) (f : Fault) → unplaced_after r ≡ unplaced_after s → r ≡ Err f → s ≡ Err f
 feed_fault (Err e) (Err g) f p q = sym p ∙ q
 feed_fault (Err e) (Ok y) f p q = absurd (failed_both (unplaced_events y.0, unplaced y.1) e (Err e) (sym p) refl)
 feed_fault (Ok x) s f p q = absurd (failed_both x f (Ok x) refl q)

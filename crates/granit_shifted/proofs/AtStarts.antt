@@ -19,7 +19,7 @@ use Rattle.granit_machine.specs.ReaderState.{Read}
 use Rattle.granit_restart.proofs.AheadLaws.{turn_next}
 use Rattle.granit_restart.specs.Boundary.{is_separated}
 use Rattle.granit_restart.specs.Restart.{dropped}
-use Rattle.granit_steps.specs.Steps.{StepState, Turn, first_pending, incoming, next_event, step_size, step_turn, pushed}
+use Rattle.granit_steps.specs.Steps.{StepState, Turn, first_pending, next_event, step_size, step_turn, pushed}
 use Rattle.granit_steps.specs.Steps.{unflagged, with_read}
 use Rattle.granit_steps.specs.Told.{GivesEvents}
 use Rattle.granit_shifted.proofs.AloneStates.{seen_first, afresh, gives_from, own_state}
@@ -27,6 +27,7 @@ use Rattle.granit_shifted.proofs.LineGaps.{Seen, here_at, laid_at}
 use Rattle.granit_shifted.proofs.Outer.{both_fresh, fresh_at}
 use Rattle.granit_shifted.proofs.OuterSteps.{alike, same_reading, gives_alike, reading_at}
 use Rattle.granit_shifted.proofs.StartReads.{marked, start_lexeme, start_read, three_alike}
+use Rattle.granit_shifted.proofs.TextEnds.{asked}
 
 -- a `---` was read that ends there
 abbrev pub start_state : ℕ → Here → Lexeme → ParserState → StepState
@@ -48,11 +49,6 @@ as_it_is y shown kind key tail e =
     (sym kind) (sym e)
     ∙ ap₂ (λ (key : Option KeyStart) (tail : Option CommentRead). record y { key = key; tail = tail }) (sym key)
     (sym tail)
-
-asked : (b : Bool) (l : Lexeme)
-    → incoming b (OfLexeme (record l { tail = None }) ∷ []) ≡ OfLexeme (record l { tail = None }) ∷ []
-asked true l = refl
-asked false l = refl
 
 module _ (o : OptionsData) where
   -- all else is of no matter

@@ -1,7 +1,8 @@
 -- Behind the next boundary all is told that the text tells that is left.
-use Rattle.std.proofs.Common.{◌≡◌, ℕ, zero, suc, ◌+◌, ◌≤◌, ◌==◌, ◌&&◌, Bool, true, false, List, [], ◌∷◌, ◌++◌, length}
+use Rattle.std.proofs.Common.{◌≡◌, ℕ, zero, suc, ◌+◌, ◌≤◌, ◌==◌, ◌&&◌, Bool, true, false, List, [], ◌∷◌, length}
 use Rattle.std.proofs.Common.{drop}
 use Rattle.std.proofs.Common.{refl, sym, ap, ◌∙◌, arith, subst}
+use Rattle.std.proofs.Math.Seq.{drop-append_seam}
 use Rattle.std.specs.Prelude.{if◌then◌else◌}
 use Rattle.granit_base.specs.Classes.{is_bom, is_break}
 use Rattle.granit_base.specs.Place.{Place, ends_line, first}
@@ -58,10 +59,6 @@ dropped_counted h some = stepped (h.place.column == 0 && is_bom (next_char h)) (
 
 -- ---- a boundary
 
-left_behind : (line behind : List ℕ) → drop (length line) (line ++ behind) ≡ behind
-left_behind [] behind = refl
-left_behind (c ∷ cs) behind = left_behind cs behind
-
 module _ (o : OptionsData) (s : StepState) (stays : StaysDeclared o s.parser) where
   abbrev number : ℕ
   number = s.reading.reader.laid.number
@@ -88,7 +85,7 @@ module _ (o : OptionsData) (s : StepState) (stays : StaysDeclared o s.parser) wh
       let at = steps (length line) (steps 3 h) in
       left_tells at behind (steps_counted (length line) (steps 3 h) (steps_counted 3 h some))
       (steps_text (length line) (steps 3 h) ∙ ap (drop (length line)) (steps_text 3 h ∙ ap (drop 3) text)
-      ∙ left_behind line behind) ends
+      ∙ drop-append_seam line behind) ends
   stands_tells h b some (stands_text_end text) = end_tells o s.parser (suc number) false h text
 
   next_tells : (h : Here) (b : Boundary) → IsCounted h → NextBoundary h b → Tells b

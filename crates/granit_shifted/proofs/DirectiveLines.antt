@@ -11,6 +11,7 @@ use Rattle.granit_base.specs.Classes.{is_yaml_non_break, is_yaml_non_space, is_z
 use Rattle.granit_base.specs.Place.{first}
 use Rattle.granit_error.specs.OptionsData.{OptionsData}
 use Rattle.granit_language.specs.Begins as begins
+use Rattle.granit_lexemes.proofs.CharTests.{no_blank_break}
 use Rattle.granit_lexemes.proofs.HereLemmas.{no_line_end}
 use Rattle.granit_lexemes.specs.Directive.{DirectiveRead, directive}
 use Rattle.granit_lexemes.specs.DirectiveExtent.{All, DirectiveNameStands, DirectiveStands}
@@ -50,10 +51,6 @@ break_parts_words c e = on (is_blank c) (is_break c) (is_z c) e
     on false true z e = refl
     on false false z e = absurd (cc)
 
-break_no_blank : (c : ℕ) → is_break c ≡ true → is_blank c ≡ false
-unfolding is_break is_blank
-break_no_blank c e = grind (arith, nat_tests, e)
-
 part_no_break : (c : ℕ) → is_uri_or_blank c ≡ true → is_break c ≡ false
 part_no_break c e = by (is_break c) refl
   where
@@ -61,7 +58,7 @@ part_no_break c e = by (is_break c) refl
     by false p = p
     by true p =
         let n : is_uri_or_blank c ≡ false =
-        ap₂ (λ (a b : Bool). a || b) (break_no_blank c p) (ends_no_uri c (break_parts_words c p)) in
+        ap₂ (λ (a b : Bool). a || b) (no_blank_break c p) (ends_no_uri c (break_parts_words c p)) in
         absurd (cc)
 
 -- the place behind characters on one line, at which this is known of the line

@@ -41,6 +41,7 @@ use Rattle.granit_shifted.proofs.LineGaps.{Seen, here_at, laid_at, seen_behind, 
 use Rattle.granit_shifted.proofs.Outer.{both_fresh}
 use Rattle.granit_shifted.proofs.OuterSteps.{alike, gives_alike, reading_at, same_reading}
 use Rattle.granit_shifted.proofs.StartReads.{marked, start_lexeme, start_read, three_on}
+use Rattle.granit_shifted.proofs.TextEnds.{asked}
 use Rattle.granit_shifted.specs.Declaring.{DeclaresHandle, empty_document}
 use Rattle.granit_steps.specs.Steps.{StepState, Turn, incoming, next_event, pushed, step_size, step_turn, unflagged}
 use Rattle.granit_steps.specs.Steps.{with_read}
@@ -79,11 +80,6 @@ anew_at a m kept =
 
 -- ---- one read
 
-not_asked : (b : Bool) (x : Lexeme)
-    → incoming b (OfLexeme (record x { tail = None }) ∷ []) ≡ OfLexeme (record x { tail = None }) ∷ []
-not_asked true x = refl
-not_asked false x = refl
-
 module _ (o : OptionsData) where
   lexeme_turn : (h k : Here) (l m : Laid) (x : Lexeme) (p : ParserState) → is_end_kind x.kind ≡ false
       → read o (record { here = h; laid = l })
@@ -101,7 +97,7 @@ module _ (o : OptionsData) where
           parser = p;
           pending = [];
         },
-      ) in turn) e (not_asked o.emit_comments x)
+      ) in turn) e (asked o.emit_comments x)
 
   -- ---- states that read the same
 

@@ -2,6 +2,7 @@
 use Rattle.std.proofs.Common.{◌≡◌, Bool, true, false, ◌||◌, List, [], ◌∷◌, ◌++◌, Option, Some, None, Result, Ok, Err}
 use Rattle.std.proofs.Common.{refl, sym, ap}
 use Rattle.std.proofs.Common.{subst, ◌∙◌}
+use Rattle.std.proofs.lemmas.Bool.{or_parts, or_right}
 use Rattle.std.specs.Prelude.{if◌then◌else◌}
 use Rattle.granit_error.specs.OptionsData.{OptionsData}
 use Rattle.granit_language.specs.Before.{freshened, in_front}
@@ -10,15 +11,12 @@ use Rattle.granit_language.specs.Reached.{ends_column_by, of_comment, of_lexeme,
 use Rattle.granit_language.specs.Standing.{Given, GivenOne}
 use Rattle.granit_lexemes.specs.Comment.{CommentRead}
 use Rattle.granit_lexemes.specs.Here.{Here}
-use Rattle.granit_lexemes.specs.Lexeme.{Lexeme, LexemeKind, Item, OfLexeme, OfComment}
+use Rattle.granit_lexemes.specs.Lexeme.{Lexeme, Item, OfLexeme, OfComment}
 use Rattle.granit_lexemes.specs.Outcome.{Fault, ◌>>=◌}
 use Rattle.granit_lexemes.specs.PlainEvent.{PlainEvent}
 use Rattle.granit_machine.specs.Frames.{ParserState}
 use Rattle.granit_machine.specs.Laid.{Laid}
-use Rattle.granit_machine.specs.LexemeSort.{LexemeSort, TextEnd, StartMark, EndMark, Unprintable, DirectiveSign, Placed}
-use Rattle.granit_machine.specs.LexemeSort.{OpenSign, CloseSign, CommaSign, DashSign, QuestionSign, ColonSign}
-use Rattle.granit_machine.specs.LexemeSort.{AliasSign, AnchorSign, TagSign, BlockSign, QuoteSign, StrayMark, NoSign}
-use Rattle.granit_machine.specs.LexemeSort.{PlainSign}
+use Rattle.granit_machine.specs.LexemeSort.{LexemeSort, TextEnd}
 use Rattle.granit_machine.specs.Lexing.{FlaggedItem}
 use Rattle.granit_machine.specs.NodeLexemes.{note_items}
 use Rattle.granit_machine.specs.Parser.{feed}
@@ -26,21 +24,15 @@ use Rattle.granit_machine.specs.Reader.{LexState, behind_read, is_end, is_end_ki
 use Rattle.granit_machine.specs.ReaderState.{Read, ReaderState}
 use Rattle.granit_reading.proofs.Answering.{Answers}
 use Rattle.granit_reading.proofs.ReadingLaw.{read-is, ReadsBy}
-use Rattle.granit_reading.proofs.Telling.{SaysOf, telling}
+use Rattle.granit_reading.proofs.Telling.{end_sort}
+use Rattle.granit_reading.proofs.Telling.{telling}
 use Rattle.granit_restart.proofs.MarkLaws.{items, pushed_items}
 use Rattle.granit_steps.proofs.Futures.{pushed_nil}
+use Rattle.granit_steps.proofs.StreamLaws.{has_end}
+use Rattle.granit_steps.proofs.StreamNesting.{is_end_item}
 use Rattle.granit_steps.specs.Steps.{StepState, Turn, front_turn, incoming, line_behind, may_go, pushed, read_more}
 use Rattle.granit_steps.specs.Steps.{read_unless}
 use Rattle.granit_steps.specs.Steps.{step_turn, turn_by, with_fed, with_read}
-use Rattle.granit_shifted.proofs.MarkWaits.{or_left, or_right}
-
-abbrev pub ends : Item → Bool
-ends (OfLexeme l) = is_end_kind l.kind
-ends (OfComment c) = false
-
-abbrev pub any_ends : List Item → Bool
-any_ends [] = false
-any_ends (i ∷ is) = ends i || any_ends is
 
 -- ---- one read
 
@@ -48,10 +40,10 @@ abbrev NothingLeft : Here → Type 0
 NothingLeft h = h.unread.text ≡ []
 
 pub record EndRead (is : List Item) (h : Here) : Type 0 where
-  pub first : any_ends is ≡ is_end is
+  pub first : has_end is ≡ is_end is
   pub left : is_end is ≡ true → NothingLeft h
 
-alone_first : (x : Lexeme) (behind : Option CommentRead) → any_ends (OfLexeme x ∷ note_items behind)
+alone_first : (x : Lexeme) (behind : Option CommentRead) → has_end (OfLexeme x ∷ note_items behind)
     ≡ is_end (OfLexeme x ∷ note_items behind)
 alone_first x None = or_none (is_end_kind x.kind)
   where
@@ -63,32 +55,6 @@ alone_first x (Some c) = or_none (is_end_kind x.kind)
     or_none : (b : Bool) → (b || false) ≡ b
     or_none true = refl
     or_none false = refl
-
-not_end : {A : Type 0} (kind : LexemeKind) (x : Lexeme) → x.kind ≡ kind → is_end_kind kind ≡ false
-    → is_end_kind x.kind ≡ true → A
-not_end kind x k n e = absurd (let f = ap is_end_kind k in cc (e, f, n))
-
-end_sort : (h : Here) (l : Laid) (x : Lexeme) (sort : LexemeSort) → SaysOf sort h l x → is_end_kind x.kind ≡ true
-    → sort ≡ TextEnd
-end_sort h l x TextEnd s e = refl
-end_sort h l x StartMark s e = not_end _ x s.0.is refl e
-end_sort h l x EndMark s e = not_end _ x s.0.is refl e
-end_sort h l x DirectiveSign s e = not_end _ x s.1.is refl e
-end_sort h l x Unprintable s e = absurd s
-end_sort h l x (Placed (OpenSign bracket)) s e = not_end _ x s.is refl e
-end_sort h l x (Placed (CloseSign bracket)) s e = not_end _ x s.0.is refl e
-end_sort h l x (Placed CommaSign) s e = not_end _ x s.is refl e
-end_sort h l x (Placed DashSign) s e = not_end _ x s.0.is refl e
-end_sort h l x (Placed QuestionSign) s e = not_end _ x s.0.is refl e
-end_sort h l x (Placed ColonSign) s e = not_end _ x s.0 refl e
-end_sort h l x (Placed AliasSign) s e = not_end _ x s.1.is refl e
-end_sort h l x (Placed AnchorSign) s e = not_end _ x s.1.is refl e
-end_sort h l x (Placed TagSign) s e = not_end _ x s.2.is refl e
-end_sort h l x (Placed (BlockSign literal)) s e = not_end _ x s.2.is refl e
-end_sort h l x (Placed (QuoteSign single)) s e = not_end _ x s.2.is refl e
-end_sort h l x (Placed PlainSign) s e = not_end _ x s.2.is refl e
-end_sort h l x (Placed StrayMark) s e = absurd s
-end_sort h l x (Placed NoSign) s e = absurd s
 
 empty_by : (in_flow adjacent : Bool) (column : _) (text : List _) → Begins in_flow adjacent column text TextEnd
     → text ≡ []
@@ -117,7 +83,7 @@ reads_end o s after is (of_lexeme at behind sort comes given keys) =
     let l = in_front sort f.here f.laid in
     let t = telling o (ends_column_by sort f) f.here l sort is behind given.1 in
     record {
-      first = ap any_ends t.are ∙ alone_first t.lexeme t.note ∙ sym (ap is_end t.are);
+      first = ap has_end t.are ∙ alone_first t.lexeme t.note ∙ sym (ap is_end t.are);
       left = λ e. left_by o at behind is sort (end_sort f.here l t.lexeme sort t.says (sym (ap is_end t.are) ∙ e))
           comes.begins given.1;
     }
@@ -129,24 +95,20 @@ read_end o s after is e = reads_end o s after is (subst (Answers (ReadsBy o s) _
 -- ---- one turn
 
 pub record EndLast (l : LexState) (q : List FlaggedItem) : Type 0 where
-  pub waits : any_ends (items q) ≡ true → l.ended ≡ true
+  pub waits : has_end (items q) ≡ true → l.ended ≡ true
   pub left : l.ended ≡ true → NothingLeft l.reader.here
 
 abbrev pub TurnEnds : Turn → Type 0
 TurnEnds (Ok x) = EndLast x.1.reading x.1.queue
 TurnEnds (Err f) = Unit {0}
 
-pub or_one : (a b : Bool) → b ≡ true → (a || b) ≡ true
-or_one true b e = refl
-or_one false b e = e
-
-ends_joined : (xs ys : List Item) → any_ends xs ≡ false → any_ends (xs ++ ys) ≡ any_ends ys
+ends_joined : (xs ys : List Item) → has_end xs ≡ false → has_end (xs ++ ys) ≡ has_end ys
 ends_joined [] ys e = refl
 ends_joined (x ∷ xs) ys e =
-    ap (λ (b : Bool). b || any_ends (xs ++ ys)) (or_left (ends x) (any_ends xs) e)
-    ∙ ends_joined xs ys (or_right (ends x) (any_ends xs) e)
+    ap (λ (b : Bool). b || has_end (xs ++ ys)) (or_parts (is_end_item x) (has_end xs) e).0
+    ∙ ends_joined xs ys (or_parts (is_end_item x) (has_end xs) e).1
 
-asked_ends : (b : Bool) (is : List Item) → any_ends (incoming b is) ≡ any_ends is
+asked_ends : (b : Bool) (is : List Item) → has_end (incoming b is) ≡ has_end is
 asked_ends true is = refl
 asked_ends false [] = refl
 asked_ends false (OfLexeme l ∷ is) = ap (λ c. is_end_kind l.kind || c) (asked_ends false is)
@@ -160,8 +122,8 @@ fed_ends : (s : StepState) (i : FlaggedItem) (is : List FlaggedItem)
     (r : Result (List PlainEvent × ParserState) Fault) → s.queue ≡ i ∷ is → EndLast s.reading s.queue
     → TurnEnds (r >>= λ x. Ok (Some [], with_fed s is x))
 fed_ends s i is (Ok x) queue p = record {
-  waits = λ e. p.waits (ap (λ (q : List FlaggedItem). any_ends (items q)) queue
-      ∙ or_one (ends i.item) (any_ends (items is)) e);
+  waits = λ e. p.waits (ap (λ (q : List FlaggedItem). has_end (items q)) queue
+      ∙ or_right (is_end_item i.item) (has_end (items is)) e);
   left = p.left;
 }
 fed_ends s i is (Err f) queue p = tt
@@ -171,11 +133,11 @@ module _ (o : OptionsData) where
       → EndLast l (pushed s.queue (incoming o.emit_comments []))
   nothing_came s l p = subst (EndLast l) (sym (pushed_nil o.emit_comments s.queue)) p
 
-  read_ends : (s : StepState) (r : Read) → read o s.reading.reader ≡ r → any_ends (items s.queue) ≡ false
+  read_ends : (s : StepState) (r : Read) → read o s.reading.reader ≡ r → has_end (items s.queue) ≡ false
       → TurnEnds (behind_read r s.reading.reader >>= λ x. Ok (Some [], with_read o s x))
   read_ends s (Ok x) e none =
       let known = read_end o s.reading.reader x.1 x.0 e in
-      let came = ap any_ends (pushed_items s.queue (incoming o.emit_comments x.0))
+      let came = ap has_end (pushed_items s.queue (incoming o.emit_comments x.0))
       ∙ ends_joined (items s.queue) (incoming o.emit_comments x.0) none ∙ asked_ends o.emit_comments x.0
       ∙ known.first in
       record { waits = λ e. sym came ∙ e; left = known.left }
@@ -213,5 +175,5 @@ module _ (o : OptionsData) where
   turn_ends s p = by_ends s.pending s.queue s refl p
 
 -- where nothing was read, or a `---` alone
-pub not_ended : (l : LexState) (q : List FlaggedItem) → any_ends (items q) ≡ false → l.ended ≡ false → EndLast l q
+pub not_ended : (l : LexState) (q : List FlaggedItem) → has_end (items q) ≡ false → l.ended ≡ false → EndLast l q
 not_ended l q none e = record { waits = λ f. absurd (cc); left = λ f. absurd (cc) }

@@ -1,6 +1,7 @@
 -- The `---` that is found among what was read is the one that waits, and reading stands behind it.
 use Rattle.std.proofs.Common.{◌||◌, ◌≡◌, ℕ, Bool, true, false, List, [], ◌∷◌, Option, Some, None}
 use Rattle.std.proofs.Common.{Ok, Err, refl, ap, subst, ◌∙◌}
+use Rattle.std.proofs.lemmas.Bool.{or_right}
 use Rattle.granit_error.specs.OptionsData.{OptionsData}
 use Rattle.granit_lexemes.specs.Here.{Here}
 use Rattle.granit_lexemes.specs.Lexeme.{Lexeme, LexemeKind, Item, OfLexeme, OfComment}
@@ -18,7 +19,9 @@ use Rattle.granit_restart.specs.Restart.{is_boundary, lexeme_or, read_boundary, 
 use Rattle.granit_steps.specs.Steps.{StepState, Turn, step_turn}
 use Rattle.granit_machine.specs.Reader.{is_end_kind}
 use Rattle.granit_steps.proofs.Futures.{Ready}
-use Rattle.granit_shifted.proofs.EndWaits.{EndLast, TurnEnds, any_ends, ends, not_ended, or_one, turn_ends}
+use Rattle.granit_steps.proofs.StreamLaws.{has_end}
+use Rattle.granit_steps.proofs.StreamNesting.{is_end_item}
+use Rattle.granit_shifted.proofs.EndWaits.{EndLast, TurnEnds, not_ended, turn_ends}
 use Rattle.granit_shifted.proofs.StartReads.{parted}
 use Rattle.granit_shifted.proofs.FoundMarks.{cursor_there, cursor_waiting}
 use Rattle.granit_shifted.proofs.MarkWaits.{none_waits, one_waits}
@@ -120,18 +123,18 @@ found_holds stop s None holds e =
 found_holds stop s (Some l) holds e =
     lexeme_last (cursor_at stop s.reading) s l l.kind (cursor_start stop s l holds e)
 
-boundary_ends : (s : StepState) (b : Boundary) → EndLast (at_boundary s b).1.reading (at_boundary s b).1.queue
+pub boundary_ends : (s : StepState) (b : Boundary) → EndLast (at_boundary s b).1.reading (at_boundary s b).1.queue
 boundary_ends s (AtStart g) = not_ended _ _ refl refl
 boundary_ends s (PastEnd g) = not_ended _ _ refl refl
 boundary_ends s (AtTextEnd g) = not_ended _ _ refl refl
 
-lexeme_ends : (h : Here) (s : StepState) (l : Lexeme) (kind : LexemeKind) → l.kind ≡ kind
+pub lexeme_ends : (h : Here) (s : StepState) (l : Lexeme) (kind : LexemeKind) → l.kind ≡ kind
     → EndLast (at_lexeme h s kind l).1.reading (at_lexeme h s kind l).1.queue
 lexeme_ends h s l lexemes.DocumentStart e = not_ended _ _ (ap (λ (k : LexemeKind). is_end_kind k || false) e) refl
 lexeme_ends h s l lexemes.DocumentEnd e = not_ended _ _ refl refl
 lexeme_ends h s l kind e = not_ended _ _ refl refl
 
-found_ends : (h : Here) (s : StepState) (r : Option Lexeme)
+pub found_ends : (h : Here) (s : StepState) (r : Option Lexeme)
     → EndLast (at_found h s r).1.reading (at_found h s r).1.queue
 found_ends h s None = boundary_ends s (next_boundary h)
 found_ends h s (Some l) = lexeme_ends h s l l.kind refl
@@ -141,17 +144,17 @@ end_or : (b d : Bool) (x l : Lexeme) (later : Option Lexeme) → is_end_kind l.k
     → (later ≡ Some l → d ≡ true) → lexeme_or b x later ≡ Some l → (is_end_kind x.kind || d) ≡ true
 end_or true d x l later end more e =
     let same : x ≡ l = cc in ap (λ (y : Lexeme). is_end_kind y.kind || d) same ∙ ap (λ (b : Bool). b || d) end
-end_or false d x l later end more e = or_one (is_end_kind x.kind) d (more e)
+end_or false d x l later end more e = or_right (is_end_kind x.kind) d (more e)
 
 end_of : (h : Here) (i : Item) (d : Bool) (l : Lexeme) (later : Option Lexeme) → is_end_kind l.kind ≡ true
-    → (later ≡ Some l → d ≡ true) → boundary_of h i later ≡ Some l → (ends i || d) ≡ true
+    → (later ≡ Some l → d ≡ true) → boundary_of h i later ≡ Some l → (is_end_item i || d) ≡ true
 end_of h (OfLexeme x) d l later end more e = end_or (is_boundary h x.kind x) d x l later end more e
 end_of h (OfComment c) d l later end more e = more e
 
 end_in : (h : Here) (q : List FlaggedItem) (l : Lexeme) → is_end_kind l.kind ≡ true → read_boundary h q ≡ Some l
-    → any_ends (items q) ≡ true
+    → has_end (items q) ≡ true
 end_in h [] l end e = absurd (cc)
-end_in h (i ∷ is) l end e = end_of h i.item (any_ends (items is)) l (read_boundary h is) end (end_in h is l end) e
+end_in h (i ∷ is) l end e = end_of h i.item (has_end (items is)) l (read_boundary h is) end (end_in h is l end) e
 
 pub cursor_end : (stop : Here) (s : StepState) (l : Lexeme) → Holds s
     → read_boundary (cursor_at stop s.reading) s.queue ≡ Some l → is_end_kind l.kind ≡ true

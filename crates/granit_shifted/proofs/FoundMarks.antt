@@ -1,12 +1,13 @@
 -- A document mark of a sort that is found among what was read is the one that waits, and reading stands behind it.
 use Rattle.std.proofs.Common.{◌≡◌, Bool, true, false, List, [], ◌∷◌, ◌++◌, Option, Some, None, sym, ap, subst, ◌∙◌}
+use Rattle.std.proofs.lemmas.Bool.{or_parts}
 use Rattle.granit_lexemes.specs.Here.{Here}
 use Rattle.granit_lexemes.specs.Lexeme.{Lexeme, LexemeKind, Item, OfLexeme, OfComment}
 use Rattle.granit_machine.specs.Lexing.{FlaggedItem}
 use Rattle.granit_machine.specs.Reader.{LexState}
 use Rattle.granit_restart.proofs.MarkLaws.{items}
 use Rattle.granit_restart.specs.Restart.{boundary_of, cursor_at, is_boundary, lexeme_or, read_boundary}
-use Rattle.granit_shifted.proofs.MarkWaits.{any_of, none_waits, of_sort, one_waits, or_left, or_right, WaitsLast}
+use Rattle.granit_shifted.proofs.MarkWaits.{any_of, none_waits, of_sort, one_waits, WaitsLast}
 
 -- without a refused read the cursor is where reading stands
 pub cursor_there : (stop : Here) (l : LexState) → l.fault ≡ None → cursor_at stop l ≡ l.reader.here
@@ -36,8 +37,8 @@ module _ (has : LexemeKind → Bool) (Stands : Here → Lexeme → Type 0) where
       → read_boundary h q ≡ Some l → has l.kind ≡ false
   found_other h [] l bare e = absurd (cc)
   found_other h (i ∷ is) l bare e = found_of h i.item l (read_boundary h is)
-      (or_left (sort_here i.item) (any_here (items is)) bare)
-      (found_other h is l (or_right (sort_here i.item) (any_here (items is)) bare)) e
+      (or_parts (sort_here i.item) (any_here (items is)) bare).0
+      (found_other h is l (or_parts (sort_here i.item) (any_here (items is)) bare).1) e
 
   last_or : (b : Bool) (x l : Lexeme) → lexeme_or b x None ≡ Some l → x ≡ l
   last_or true x l e = cc
@@ -63,8 +64,8 @@ module _ (has : LexemeKind → Bool) (Stands : Here → Lexeme → Type 0) where
   found_last h [] x l flag bare begins e = last_or (is_boundary h x.kind x) x l e
   found_last h (g ∷ gs) x l flag bare begins e =
       behind_of h g.item x l (read_boundary h (gs ++ record { item = OfLexeme x; begins_key = flag } ∷ []))
-      (or_left (sort_here g.item) (any_here (items gs)) bare) begins
-      (found_last h gs x l flag (or_right (sort_here g.item) (any_here (items gs)) bare) begins) e
+      (or_parts (sort_here g.item) (any_here (items gs)) bare).0 begins
+      (found_last h gs x l flag (or_parts (sort_here g.item) (any_here (items gs)) bare).1 begins) e
 
   pub record Waited (l : LexState) (x : Lexeme) : Type 0 where
     pub stands : Stands l.reader.here x

@@ -1,8 +1,8 @@
 -- Behind what is found all is told that the text tells that is left.
 use Rattle.std.proofs.Common.{◌≡◌, ℕ, suc, ◌≤◌, ◌==◌, ◌||◌, ◌&&◌, not, Bool, true, false, List, [], ◌∷◌, Option, Some}
 use Rattle.std.proofs.Common.{None, inr}
-use Rattle.std.proofs.Common.{refl, sym, ap, subst, ◌∙◌, drop, length, arith}
-use Rattle.std.proofs.lemmas.Bool.Decides.{nat_tests}
+use Rattle.std.proofs.Common.{refl, sym, ap, subst, ◌∙◌, drop, length}
+use Rattle.std.proofs.lemmas.Bool.{eq-eqb}
 use Rattle.granit_base.specs.Classes.{is_blank_or_breakz, is_break, is_breakz, is_z}
 use Rattle.granit_base.specs.Place.{Mark, first}
 use Rattle.granit_error.specs.OptionsData.{OptionsData}
@@ -52,9 +52,6 @@ found_boundary h (i ∷ is) l e = found_of h i.item l (read_boundary h is) (foun
 
 -- ---- a `---` that ends where reading stands is parted by no NUL
 
-equal : (n : ℕ) → (n == n) ≡ true
-equal n = grind (arith, nat_tests)
-
 not_nul : (a z : Bool) → not ((true && z) && not a) ≡ true → a ≡ false → z ≡ false
 not_nul true z e f = absurd (cc)
 not_nul false true e f = absurd (cc)
@@ -80,7 +77,7 @@ behind_start h l r is =
     ap (λ (g : Here). g.unread.text) r.reaches ∙ steps_text 3 r.place ∙ ap (drop 3) r.text in
     let there : l.end ≡ mark_of h = r.end ∙ sym (ap mark_of r.reaches) in
     let ends : (l.end.place.index == h.place.index) ≡ true =
-    ap (λ (m : Mark). m.place.index == h.place.index) there ∙ equal h.place.index in
+    ap (λ (m : Mark). m.place.index == h.place.index) there ∙ eq-eqb h.place.index h.place.index refl in
     separated r.behind r.parted
     (sym (ap (λ (t : List ℕ). not ((true && first t == 0) && not (length t == 0))) text)
     ∙ sym (ap (λ (b : Bool). not ((b && next_char h == 0) && not (text_len h == 0))) ends) ∙ is)

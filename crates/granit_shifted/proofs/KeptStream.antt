@@ -12,7 +12,7 @@ use Rattle.granit_lexemes.specs.Pieces.{with_front, pieces}
 use Rattle.granit_lexemes.specs.PlainEvent as events
 use Rattle.granit_lexemes.specs.PlainEvent.{PlainEvent, PlainVersion, event_at}
 use Rattle.granit_scalars.proofs.Turning.{Carries, pieces_hold}
-use Rattle.granit_machine.proofs.ClosingLemmas.{close_turn-Shortens}
+use Rattle.granit_machine.proofs.ClosingLemmas.{close_turn-Shortens, FeedGiven}
 use Rattle.granit_machine.specs.Closing.{ends_top, token_start, end_top, close_turn, depth}
 use Rattle.granit_machine.specs.Entries.{lookup_text, remembered}
 use Rattle.granit_machine.specs.Frames.{Frame, Root, WithProperties, BlockSequence, BlockMapping, FlowSequence}
@@ -27,6 +27,7 @@ use Rattle.granit_machine.specs.StreamSteps.{at_root, with_version, with_handle,
 use Rattle.granit_machine.specs.StreamSteps.{with_directive, behind_directives, begin_document, without_directives}
 use Rattle.granit_machine.specs.StreamSteps.{when_fresh, when_between, end_document, behind_root, outside}
 use Rattle.granit_machine.specs.TokenSort.{Token, token_of, begins_node}
+use Rattle.granit_restart.proofs.LookLaws.{handed}
 use Rattle.granit_shifted.proofs.KeptSteps.{KeptHandles, KeepsHandles, keeps_ok, keeps_err, keeps_if, flush_kept}
 use Rattle.granit_shifted.proofs.KeptSteps.{finish_kept, end_node_kept, end_properties_kept, node_step_keeps}
 use Rattle.granit_shifted.proofs.KeptSteps.{in_sequence_keeps, in_mapping_keeps, in_flow_sequence_keeps}
@@ -39,14 +40,11 @@ end_top_kept o t p (Root explicit ∷ fs) = finish_kept (give (null_at p.last_en
 end_top_kept o t p (WithProperties q ∷ fs) = end_properties_kept o q p
 end_top_kept o t p fs = end_node_kept t.lexeme.start (token_start t) p
 
-abbrev ClosedStates : Type 0
-ClosedStates = Result (List PlainEvent × ParserState) Fault
-
-abbrev KeepsAll : ParserState → ClosedStates → Type 0
+abbrev KeepsAll : ParserState → FeedGiven → Type 0
 KeepsAll p (Ok x) = x.1.kept ≡ p.kept
 KeepsAll p (Err f) = Unit {0}
 
-closes_given : (o : OptionsData) (t : Token) (p : ParserState) (given : ClosedStates)
+closes_given : (o : OptionsData) (t : Token) (p : ParserState) (given : FeedGiven)
     → KeepsAll (end_top o t p p.frames) given → KeepsAll p (with_front [] given)
 closes_given o t p (Ok x) h = h ∙ end_top_kept o t p p.frames
 closes_given o t p (Err f) h = tt
@@ -194,7 +192,7 @@ take_in_remembers kept o (FlowMapping single stage ∷ fs) t p e =
 take_in_remembers kept o (FlowPair stage ∷ fs) t p e =
     kept_remembers _ kept _ (flow_pair_keeps kept o t stage t.sort p e)
 
-closed_remembers : (o : OptionsData) (t : Token) (p : ParserState) (r : ClosedStates) → KeepsAll p r
+closed_remembers : (o : OptionsData) (t : Token) (p : ParserState) (r : FeedGiven) → KeepsAll p r
     → RemembersIn t.lexeme.kind p.kept ((r >>= λ x. Ok x.1) >>= take_token o t)
 closed_remembers o t p (Ok x) h = take_in_remembers p.kept o x.1.frames t x.1 h
 closed_remembers o t p (Err f) h = record { says = tt }
@@ -226,27 +224,24 @@ abbrev pub FedRemembers : Item → KeptHandles → Result (List PlainEvent × Pa
 FedRemembers i kept (Ok x) = RemembersOf i kept x.1.kept
 FedRemembers i kept (Err f) = Unit {0}
 
-abbrev fed_behind : Stepped → Result (List PlainEvent × ParserState) Fault
-fed_behind r = r >>= λ q. Ok (q.given, record q { given = [] })
-
 behind_its_tail : (l : lexemes.Lexeme) (kept : KeptHandles) (q : ParserState) (r : Stepped)
-    → Remembers l.kind kept q.kept → KeepsHandles q.kept r → FedRemembers (OfLexeme l) kept (fed_behind r)
+    → Remembers l.kind kept q.kept → KeepsHandles q.kept r → FedRemembers (OfLexeme l) kept (handed r)
 behind_its_tail l kept q (Ok p) h k = subst (Remembers l.kind kept) (sym k.says) h
 behind_its_tail l kept q (Err f) h k = tt
 
 lexeme_remembers : (o : OptionsData) (l : lexemes.Lexeme) (next : Option ℕ) (kept : KeptHandles) (r : Stepped)
-    → RemembersIn l.kind kept r → FedRemembers (OfLexeme l) kept (fed_behind (r >>= take_tail l.kind l.tail next))
+    → RemembersIn l.kind kept r → FedRemembers (OfLexeme l) kept (handed (r >>= take_tail l.kind l.tail next))
 lexeme_remembers o l next kept (Ok q) h =
     behind_its_tail l kept q (take_tail l.kind l.tail next q) h.says (tail_leaves_kept l.kind l.tail next q)
 lexeme_remembers o l next kept (Err f) h = tt
 
 comment_remembers : (c : CommentRead) (kept : KeptHandles) (r : Stepped) → KeepsHandles kept r
-    → FedRemembers (OfComment c) kept (fed_behind r)
+    → FedRemembers (OfComment c) kept (handed r)
 comment_remembers c kept (Ok q) k = k.says
 comment_remembers c kept (Err f) k = tt
 
 item_remembers : (o : OptionsData) (i : Item) (begins_key : Bool) (next : Option ℕ) (p : ParserState)
-    → FedRemembers i p.kept (fed_behind (take_item o i begins_key next p))
+    → FedRemembers i p.kept (handed (take_item o i begins_key next p))
 item_remembers o (OfComment c) begins_key next p = comment_remembers c p.kept _ (comment_keeps c next p)
 item_remembers o (OfLexeme l) begins_key next p =
     let t = token_of begins_key l in

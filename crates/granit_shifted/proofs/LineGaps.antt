@@ -5,9 +5,10 @@ use Rattle.std.specs.Option.{option_map}
 use Rattle.std.specs.Char.{encode_utf8}
 use Rattle.std.specs.Prelude.{if◌then◌else◌}
 use Rattle.std.proofs.lemmas.Bool.Decides.{nat_tests}
-use Rattle.granit_base.specs.Classes.{is_break, is_bom, is_gap, is_blank}
+use Rattle.granit_base.specs.Classes.{is_break, is_bom}
 use Rattle.granit_base.specs.Place.{Mark, first, ends_line}
 use Rattle.granit_error.specs.OptionsData.{OptionsData}
+use Rattle.granit_lexemes.proofs.CharTests.{break_gap}
 use Rattle.granit_lexemes.proofs.HereLemmas.{not_empty}
 use Rattle.granit_lexemes.specs.Here.{Here, begins_behind, tab_behind, step, first_tab, is_quiet}
 use Rattle.granit_machine.specs.Gaps.{GapRead, begins_gap, skip_gap, past_gap, gap_ends, gap}
@@ -54,14 +55,6 @@ pub step_on : (d : ℕ) (ds : List ℕ) (offset : Option ℕ) (lends : Bool) (i 
     ≡ here_at ds (more d offset) lends (i + 1) n (seen_behind d ds offset i n s)
 unfolding step begins_behind tab_behind
 step_on d ds offset lends i n s e = rw (not_empty d ds, e) refl
-
-break_gap : (d : ℕ) → is_break d ≡ true → is_gap d ≡ true
-unfolding is_gap
-break_gap d e = on (is_blank d) (is_break d) e
-  where
-    on : (a b : Bool) → b ≡ true → (a || b) ≡ true
-    on true b e = refl
-    on false b e = e
 
 no_bom : (d : ℕ) → is_break d ≡ true → is_bom d ≡ false
 unfolding is_break is_bom

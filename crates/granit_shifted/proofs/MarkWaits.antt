@@ -2,6 +2,7 @@
 use Rattle.std.proofs.Common.{◌≡◌, Bool, true, false, ◌||◌, ◌&&◌, not, List, [], ◌∷◌, ◌++◌, Option, Some, None, Result}
 use Rattle.std.proofs.Common.{Ok}
 use Rattle.std.proofs.Common.{Err, refl, ap, subst, ◌∙◌, map}
+use Rattle.std.proofs.lemmas.Bool.{or_parts}
 use Rattle.std.specs.Prelude.{if◌then◌else◌}
 use Rattle.granit_error.specs.OptionsData.{OptionsData}
 use Rattle.granit_lexemes.specs.Here.{Here}
@@ -23,14 +24,6 @@ use Rattle.granit_steps.specs.Steps.{marked_by, may_go}
 use Rattle.granit_steps.specs.Steps.{pushed}
 use Rattle.granit_steps.specs.Steps.{Turn, front_turn, read_more, read_unless, step_turn, turn_by}
 use Rattle.granit_steps.specs.Steps.{with_fed, with_read}
-
-pub or_right : (a b : Bool) → (a || b) ≡ false → b ≡ false
-or_right true b e = absurd (cc)
-or_right false b e = e
-
-pub or_left : (a b : Bool) → (a || b) ≡ false → a ≡ false
-or_left true b e = e
-or_left false b e = refl
 
 marked_same : (i : Item) (q : List FlaggedItem) → items (map (marked_by i) q) ≡ items q
 marked_same i [] = refl
@@ -73,8 +66,8 @@ module _ (has : LexemeKind → Bool) (Stands : Here → Lexeme → Type 0) where
   joined : (xs ys : List Item) → any_of xs ≡ false → any_of (xs ++ ys) ≡ any_of ys
   joined [] ys e = refl
   joined (x ∷ xs) ys e =
-      ap (λ (b : Bool). b || any_of (xs ++ ys)) (or_left (of_sort x) (any_of xs) e)
-      ∙ joined xs ys (or_right (of_sort x) (any_of xs) e)
+      ap (λ (b : Bool). b || any_of (xs ++ ys)) (or_parts (of_sort x) (any_of xs) e).0
+      ∙ joined xs ys (or_parts (of_sort x) (any_of xs) e).1
 
   asked : (b : Bool) (is : List Item) → any_of (incoming b is) ≡ any_of is
   asked true is = refl
@@ -99,12 +92,12 @@ module _ (has : LexemeKind → Bool) (Stands : Here → Lexeme → Type 0) where
     lexeme = x;
     flag = flag;
     are = ap tail_of are;
-    before = or_right (of_sort g.item) (any_of (items gs)) before;
+    before = (or_parts (of_sort g.item) (any_of (items gs)) before).1;
     stands = stands;
   }) fault
 
   rest_last : (l : LexState) (i : FlaggedItem) (is : List FlaggedItem) → WaitsLast l (i ∷ is) → WaitsLast l is
-  rest_last l i is (none_waits e) = none_waits (or_right (of_sort i.item) (any_of (items is)) e)
+  rest_last l i is (none_waits e) = none_waits (or_parts (of_sort i.item) (any_of (items is)) e).1
   rest_last l i is (one_waits w fault) = rest_by l i is w.front w.lexeme w.flag w.are w.before w.stands fault
 
   fed_last : (s : StepState) (i : FlaggedItem) (is : List FlaggedItem)

@@ -37,7 +37,7 @@ any_starts is = any_of is_start StartRead is
 abbrev pub StartsIn : Here → List Item → Type 0
 StartsIn after is = OneIn is_start StartRead after is
 
-or_false : (b : Bool) → b ≡ false → (b || false) ≡ false
+pub or_false : (b : Bool) → b ≡ false → (b || false) ≡ false
 or_false true e = e
 or_false false e = refl
 

@@ -65,7 +65,7 @@ end_is_read o number may h e =
 
 -- ---- the calls
 
-asked : (b : Bool) (l : Lexeme) → incoming b (OfLexeme (record l { tail = None }) ∷ [])
+pub asked : (b : Bool) (l : Lexeme) → incoming b (OfLexeme (record l { tail = None }) ∷ [])
     ≡ OfLexeme (record l { tail = None }) ∷ []
 asked true l = refl
 asked false l = refl

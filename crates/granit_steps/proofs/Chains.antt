@@ -1,19 +1,20 @@
 -- All that is read from a state on: which keys are found there, and that they nest.
 use Rattle.std.proofs.Common.{◌≡◌, ℕ, zero, suc, ◌<◌, ◌==◌, ◌||◌, Bool, true, false, List, [], ◌∷◌, ◌++◌, Option, Some}
 use Rattle.std.proofs.Common.{None, Result, Ok, Err, refl, sym, ap, ap₂, subst, ◌∙◌, inl, inr, arith}
-use Rattle.std.specs.Prelude.{if◌then◌else◌}
+use Rattle.std.proofs.lemmas.Bool.{or_from, eq-eqb}
 use Rattle.std.proofs.lemmas.Bool.Decides.{nat_tests}
 use Rattle.granit_error.specs.OptionsData.{OptionsData}
 use Rattle.granit_lexemes.specs.Lexeme.{KeyStart, Lexeme, Item, OfLexeme, OfComment}
 use Rattle.granit_lexemes.specs.Outcome.{Fault, ◌>>=◌}
 use Rattle.granit_lexemes.specs.Pieces.{with_front, then_more, turns, pieces}
+use Rattle.granit_machine.proofs.LexLengths.{lex_by}
 use Rattle.granit_machine.specs.Laid.{Laid}
 use Rattle.granit_machine.specs.Lexing.{Flagging, is_nearest, others, and_key, flag_lexeme, flagging}
-use Rattle.granit_machine.specs.Reader.{read, LexState, LexTurn, behind_read, lex_turn, lex_len, is_end}
+use Rattle.granit_machine.specs.Reader.{read, LexState, behind_read, lex_turn, lex_len, is_end}
 use Rattle.granit_machine.specs.ReaderState.{Read}
 use Rattle.granit_steps.specs.Flags.{is_wanted, is_keyed, with_flag, flags}
 use Rattle.granit_steps.proofs.KeyReads.{possibles, KeysBehind, IsComment, Items, Lexed, read_keys}
-use Rattle.granit_steps.proofs.Subs.{Sub, sub_nil, sub_refl, sub_trans, sub_rest, is_in, both_false, sub_in, Below}
+use Rattle.granit_steps.proofs.Subs.{Sub, sub_nil, sub_refl, sub_trans, sub_rest, is_in, sub_in, Below}
 use Rattle.granit_steps.proofs.Subs.{sub_below, below_suc, below_not}
 
 -- ---- the stack of found keys
@@ -31,13 +32,10 @@ in_key : (m : ℕ) (key : Option KeyStart) (xs : List ℕ) → is_in m (and_key 
 in_key m None xs = refl
 in_key m (Some k) xs = refl
 
-equal_true : (k n : ℕ) → k ≡ n → (k == n) ≡ true
-equal_true k n e = grind (arith, nat_tests)
-
 less_false : (m n : ℕ) → m < n → (n == m) ≡ false
 less_false m n h = grind (arith, nat_tests)
 
-greater_false : (m n : ℕ) → m < n → (m == n) ≡ false
+pub greater_false : (m n : ℕ) → m < n → (m == n) ≡ false
 greater_false m n h = grind (arith, nat_tests)
 
 -- a stack of keys of which the first may be that of a lexeme
@@ -49,7 +47,7 @@ record Pops (number : ℕ) (before stack : List ℕ) (b : Bool) : Type 0 where
 pops_first : (number k : ℕ) (before stack : List ℕ) → k ≡ number → Sub stack before
     → Pops number before (k ∷ stack) (k == number)
 pops_first number k before stack e p =
-    let t = equal_true k number e in
+    let t = eq-eqb k number e in
     subst (λ b. Pops number before (k ∷ stack) b) (sym t)
     (record {
       same = sym (ap (λ b. b || is_in number stack) t);
@@ -66,7 +64,7 @@ pops_none number before (k ∷ stack) below p =
     let f = greater_false k number all.0 in
     subst (λ b. Pops number before (k ∷ stack) b) (sym f)
     (record {
-      same = sym (both_false (k == number) (is_in number stack) f (below_not number number stack (omega arith) all.1));
+      same = sym (or_from (k == number) (is_in number stack) f (below_not number number stack (omega arith) all.1));
       below = p;
       kept = λ m h. refl;
     })
@@ -106,7 +104,7 @@ chain_comment s u t c items e p ch = record {
 pub not_behind : (key : Option KeyStart) (number m : ℕ) (before after : List ℕ) → KeysBehind key number before after
     → m < number → is_in m before ≡ false → is_in m after ≡ false
 not_behind None number m before after p h e = sub_in m after (number ∷ before) p
-    (both_false (number == m) (is_in m before) (less_false m number h) e)
+    (or_from (number == m) (is_in m before) (less_false m number h) e)
 not_behind (Some k) number m before after p h e = sub_in m after before (sub_rest k.number after before p) e
 
 pub below_behind : (key : Option KeyStart) (number : ℕ) (before after : List ℕ) → KeysBehind key number before after
@@ -196,9 +194,6 @@ chain_front : (s u : Laid) (front : List Item) (r : Result (List Item × LexStat
     → Items s.number (possibles s) front u → LexChain u r → LexChain s (with_front front r)
 chain_front s u front (Ok x) below p ch = chain_read s u x.1.reader.laid front x.0 below p ch
 chain_front s u front (Err f) below p ch = absurd ch
-
-abbrev lex_by : Bool → OptionsData → LexState → LexTurn
-lex_by b o s = if b then Ok (None, s) else behind_read (read o s.reader) s.reader
 
 abbrev ChainsOn : OptionsData → ℕ → Type 0
 ChainsOn o n = (s : LexState) → Below s.reader.laid.number (possibles s.reader.laid)

@@ -1,5 +1,6 @@
 -- What the parser takes of the next item: its line, and only for a comment that nothing stands before.
 use Rattle.std.proofs.Common.{◌≡◌, ℕ, not, Bool, true, false, [], Option, Some, None, Ok, Err, refl, sym, ap, ◌∙◌}
+use Rattle.std.proofs.lemmas.Bool.{not-false}
 use Rattle.std.specs.Prelude.{if◌then◌else◌}
 use Rattle.granit_base.specs.declared.style.Placement.TheVariants.{Right}
 use Rattle.granit_error.specs.OptionsData.{OptionsData}
@@ -17,10 +18,6 @@ use Rattle.granit_machine.specs.TokenSort.{token_of}
 use Rattle.granit_steps.specs.Steps.{is_open_comment, asks_next}
 use Rattle.granit_lexemes.specs.PlainEvent as events
 
-pub not_false : (b : Bool) → not b ≡ false → b ≡ true
-not_false true e = refl
-not_false false e = absurd (cc)
-
 placed_right : (c : CommentRead) (n : Option ℕ) → c.is_right ≡ true → placed c n ≡ Right
 placed_right c n e = ap (λ b. if b then Right else placed_by_line c.source.end.place.line n) e
 
@@ -33,7 +30,7 @@ tail_any : (kind : LexemeKind) (tail : Option CommentRead) (n m : Option ℕ) (p
     → is_open_comment tail ≡ false → take_tail kind tail n p ≡ take_tail kind tail m p
 tail_any Dash tail n m p e = refl
 tail_any kind None n m p e = refl
-tail_any kind (Some c) n m p e = comment_any c n m p (not_false c.is_right e)
+tail_any kind (Some c) n m p e = comment_any c n m p (not-false c.is_right e)
 
 bind_any : (r : Stepped) (f g : ParserState → Stepped) → ((p : ParserState) → f p ≡ g p) → (r >>= f) ≡ (r >>= g)
 bind_any (Ok p) f g e = e p
@@ -41,7 +38,7 @@ bind_any (Err x) f g e = refl
 
 item_any : (o : OptionsData) (i : Item) (b : Bool) (n m : Option ℕ) (p : ParserState) → asks_next i ≡ false
     → take_item o i b n p ≡ take_item o i b m p
-item_any o (OfComment c) b n m p e = comment_any c n m p (not_false c.is_right e)
+item_any o (OfComment c) b n m p e = comment_any c n m p (not-false c.is_right e)
 item_any o (OfLexeme l) b n m p e = bind_any (close o (token_of b l) p >>= take_token o (token_of b l))
     (take_tail l.kind l.tail n) (take_tail l.kind l.tail m) (λ q. tail_any l.kind l.tail n m q e)
 

@@ -2,6 +2,7 @@
 use Rattle.std.proofs.Common.{◌≡◌, ℕ, suc, ◌+◌, ◌<◌, ◌≤◌, ◌&&◌, ◌||◌, not, Bool, true, false, List, [], ◌∷◌, ◌++◌}
 use Rattle.std.proofs.Common.{length, map, Option, Some, None, Result, Ok, Err, refl, sym, ap, subst, ◌∙◌, arith}
 use Rattle.std.proofs.Common.{length-append}
+use Rattle.std.proofs.lemmas.Bool.{and_parts}
 use Rattle.granit_error.specs.OptionsData.{OptionsData}
 use Rattle.granit_lexemes.specs.Lexeme.{Item, OfLexeme, OfComment}
 use Rattle.granit_lexemes.specs.Outcome.{Fault, ◌>>=◌}
@@ -73,15 +74,8 @@ asked_nil false = refl
 pub pushed_nil : (b : Bool) (q : List FlaggedItem) → pushed q (incoming b []) ≡ q
 pushed_nil b q = ap (pushed q) (asked_nil b)
 
-pub and_left : (a b : Bool) → (a && b) ≡ true → a ≡ true
-and_left true b e = refl
-and_left false b e = e
-
-pub and_right : (a b : Bool) → (a && b) ≡ true → b ≡ true
-and_right true b e = e
-and_right false b e = absurd (cc)
-
-parsers_front : (s : Laid) (end : Option Fault) (i : FlaggedItem) (q : List FlaggedItem) → is_settled s i.item ≡ true
+pub parsers_front : (s : Laid) (end : Option Fault) (i : FlaggedItem) (q : List FlaggedItem)
+    → is_settled s i.item ≡ true
     → parsers_items s end (i ∷ q) ≡ i ∷ parsers_items s end q
 parsers_front s None i q e = refl
 parsers_front s (Some f) i q e = ap (λ b. front_if b i (settled s q)) e
@@ -123,8 +117,8 @@ unread_goes : (o : OptionsData) (s : ReaderState) (i : FlaggedItem) (is : List F
 unread_goes o s i is (Err f) l ch old olds e = absurd ch
 unread_goes o s i is (Ok x) l ch old olds e =
     let items = incoming o.emit_comments x.0 in
-    let now = and_left (is_settled s.laid i.item) (not (asks_next i.item) || is_next_settled s.laid is) e in
-    let next = and_right (is_settled s.laid i.item) (not (asks_next i.item) || is_next_settled s.laid is) e in
+    let now = (and_parts (is_settled s.laid i.item) (not (asks_next i.item) || is_next_settled s.laid is) e).0 in
+    let next = (and_parts (is_settled s.laid i.item) (not (asks_next i.item) || is_next_settled s.laid is) e).1 in
     record {
       first = ap (parsers_items x.1.reader.laid x.1.fault)
           (pushed_front i is items (not_begun s.laid x.1.reader.laid o.emit_comments i.item x.0 ch old now))
@@ -155,7 +149,7 @@ front_goes : (o : OptionsData) (s : ReaderState) (ended : Bool) (end : Option Fa
 front_goes o s true None i is ready e = over_goes o s true None i is refl refl
 front_goes o s true (Some f) i is ready e = absurd (let h = ready.one_end refl in cc)
 front_goes o s false (Some f) i is ready e = over_goes o s false (Some f) i is refl
-    (parsers_front s.laid (Some f) i is (and_left (is_settled s.laid i.item) true e))
+    (parsers_front s.laid (Some f) i is (and_parts (is_settled s.laid i.item) true e).0)
 front_goes o s false None i is ready e =
     let l : LexState = record { reader = s; ended = false; fault = None } in
     unread_goes o s i is (pieces lex_len (lex_turn o) l) l (pieces_chain o l ready.below) ready.old.0 ready.old.1 e
@@ -199,7 +193,7 @@ feed_keeps o l i is p ready e =
 
 -- ---- a read
 
-rest_unread : (o : OptionsData) (s : ReaderState) (ended : Bool)
+pub rest_unread : (o : OptionsData) (s : ReaderState) (ended : Bool)
     → rest_of o (record { reader = s; ended = ended; fault = None })
     ≡ read_out (pieces lex_len (lex_turn o) (record { reader = s; ended = ended; fault = None }))
     (record { reader = s; ended = ended; fault = None })
@@ -252,41 +246,41 @@ items_length number before (OfComment c ∷ []) t p = omega arith
 items_length number before (OfComment c ∷ i ∷ is) t p = absurd p
 items_length number before (OfLexeme l ∷ is) t p = let h = comment_length is p.3 in omega (arith, h)
 
-abbrev OldItems : ℕ → List Item → Type 0
+abbrev pub OldItems : ℕ → List Item → Type 0
 OldItems n [] = Unit {0}
 OldItems n (i ∷ is) = IsOld n i × OldItems n is
 
-old_more : (n m : ℕ) (i : Item) → n ≤ m → IsOld n i → IsOld m i
+pub old_more : (n m : ℕ) (i : Item) → n ≤ m → IsOld n i → IsOld m i
 old_more n m (OfLexeme l) h p = omega (arith, h, p)
 old_more n m (OfComment c) h p = tt
 
-all_old_more : (n m : ℕ) (q : List FlaggedItem) → n ≤ m → AllOld n q → AllOld m q
+pub all_old_more : (n m : ℕ) (q : List FlaggedItem) → n ≤ m → AllOld n q → AllOld m q
 all_old_more n m [] h p = tt
 all_old_more n m (f ∷ q) h p = (old_more n m f.item h p.0, all_old_more n m q h p.1)
 
-old_last : (n : ℕ) (i j : Item) (q : List FlaggedItem) → AllOld n q → IsOld n i
+pub old_last : (n : ℕ) (i j : Item) (q : List FlaggedItem) → AllOld n q → IsOld n i
     → AllOld n (map (marked_by j) q ++ unflagged i ∷ [])
 old_last n i j [] p h = (h, tt)
 old_last n i j (f ∷ q) p h = (p.0, old_last n i j q p.1 h)
 
-old_pushed : (n : ℕ) (q : List FlaggedItem) (items : List Item) → AllOld n q → OldItems n items
+pub old_pushed : (n : ℕ) (q : List FlaggedItem) (items : List Item) → AllOld n q → OldItems n items
     → AllOld n (pushed q items)
 old_pushed n q [] p h = p
 old_pushed n q (i ∷ is) p h = old_pushed n (map (marked_by i) q ++ unflagged i ∷ []) is (old_last n i i q p h.0) h.1
 
-old_asked : (n : ℕ) (b : Bool) (items : List Item) → OldItems n items → OldItems n (incoming b items)
+pub old_asked : (n : ℕ) (b : Bool) (items : List Item) → OldItems n items → OldItems n (incoming b items)
 old_asked n true items p = p
 old_asked n false [] p = tt
 old_asked n false (OfLexeme l ∷ is) p = (p.0, old_asked n false is p.1)
 old_asked n false (OfComment c ∷ is) p = old_asked n false is p.1
 
-old_comment : (n : ℕ) (is : List Item) → IsComment is → OldItems n is
+pub old_comment : (n : ℕ) (is : List Item) → IsComment is → OldItems n is
 old_comment n [] p = tt
 old_comment n (OfLexeme l ∷ is) p = absurd p
 old_comment n (OfComment c ∷ []) p = (tt, tt)
 old_comment n (OfComment c ∷ i ∷ is) p = absurd p
 
-old_items : (number : ℕ) (before : List ℕ) (items : List Item) (t : Laid) → Items number before items t
+pub old_items : (number : ℕ) (before : List ℕ) (items : List Item) (t : Laid) → Items number before items t
     → (number ≤ t.number) × OldItems t.number items
 old_items number before [] t p = absurd p
 old_items number before (OfComment c ∷ []) t p = let e = p.0 in (omega (arith, e), (tt, tt))
@@ -402,11 +396,7 @@ wait_keeps o s false None q p ready none stuck = more_keeps o s q p ready
 not_settled : (b : Bool) (i : FlaggedItem) (q : List FlaggedItem) → b ≡ false → front_if b i q ≡ []
 not_settled b i q e = ap (λ b. front_if b i q) e
 
-or_left_false : (a b : Bool) → (a || b) ≡ false → a ≡ false
-or_left_false true b e = e
-or_left_false false b e = refl
-
-and_true_false : (a : Bool) → (a && true) ≡ false → a ≡ false
+pub and_true_false : (a : Bool) → (a && true) ≡ false → a ≡ false
 and_true_false true e = e
 and_true_false false e = refl
 

@@ -1,6 +1,8 @@
 -- The queue: items come in one by one, and what goes has its last flag.
 use Rattle.std.proofs.Common.{◌≡◌, ℕ, ◌<◌, ◌||◌, not, Bool, true, false, List, [], ◌∷◌, ◌++◌, map, Option, Some, None}
 use Rattle.std.proofs.Common.{refl, sym, ap, ap₂, ◌∙◌, append_assoc}
+use Rattle.std.proofs.Math.Bool.{or_comm, or-false}
+use Rattle.std.proofs.lemmas.Bool.{or_parts, not-true}
 use Rattle.std.proofs.lemmas.List.{append-nil, map-append}
 use Rattle.std.specs.List.{list_any}
 use Rattle.granit_lexemes.specs.Lexeme.{KeyStart, Lexeme, Item, OfLexeme, OfComment}
@@ -14,21 +16,11 @@ use Rattle.granit_steps.specs.Flags.{is_wanted, is_keyed, is_begun, with_flag, f
 use Rattle.granit_steps.specs.Steps.{incoming, is_key_at, key_of_item, marked_by, unflagged, pushed}
 use Rattle.granit_steps.proofs.Chains.{Chain}
 use Rattle.granit_steps.proofs.KeyReads.{key_start, in_brackets, possibles}
-use Rattle.granit_steps.proofs.Subs.{is_in, left_false, right_false, sub_in}
-
-or_false : (b : Bool) → (b || false) ≡ b
-or_false true = refl
-or_false false = refl
+use Rattle.granit_steps.proofs.Subs.{is_in, sub_in}
 
 or_assoc : (a b c : Bool) → ((a || b) || c) ≡ (a || (b || c))
 or_assoc true b c = refl
 or_assoc false b c = refl
-
-or_comm : (a b : Bool) → (a || b) ≡ (b || a)
-or_comm true true = refl
-or_comm true false = refl
-or_comm false true = refl
-or_comm false false = refl
 
 -- ---- what comes in
 
@@ -45,17 +37,17 @@ not_marked : (j : Item) (i : Item) (b : Bool) (js : List Item) → is_begun i (j
     → marked_by j (with_flag b i) ≡ with_flag b i
 not_marked j (OfLexeme l) b js e =
     let f : is_key_at (key_of_item j) (OfLexeme l) ≡ false = key_at_is (key_of_item j) (OfLexeme l) l refl
-    ∙ left_false (is_wanted l.number (key_of_item j)) (is_keyed l.number js) e in
-    ap (λ c. with_flag c (OfLexeme l)) (ap (λ c. b || c) f ∙ or_false b)
+    ∙ (or_parts (is_wanted l.number (key_of_item j)) (is_keyed l.number js) e).0 in
+    ap (λ c. with_flag c (OfLexeme l)) (ap (λ c. b || c) f ∙ or-false b)
 not_marked j (OfComment c) b js e = let f : is_key_at (key_of_item j) (OfComment c)
-    ≡ false = comment_key (key_of_item j) c in ap (λ d. with_flag d (OfComment c)) (ap (λ d. b || d) f ∙ or_false b)
+    ≡ false = comment_key (key_of_item j) c in ap (λ d. with_flag d (OfComment c)) (ap (λ d. b || d) f ∙ or-false b)
   where
     comment_key : (key : Option KeyStart) (c : _) → is_key_at key (OfComment c) ≡ false
     comment_key None c = refl
     comment_key (Some k) c = refl
 
 begun_rest : (i j : Item) (js : List Item) → is_begun i (j ∷ js) ≡ false → is_begun i js ≡ false
-begun_rest (OfLexeme l) j js e = right_false (is_wanted l.number (key_of_item j)) (is_keyed l.number js) e
+begun_rest (OfLexeme l) j js e = (or_parts (is_wanted l.number (key_of_item j)) (is_keyed l.number js) e).1
 begun_rest (OfComment c) j js e = refl
 
 -- the front has its last flag where no key that begins with it is found any more
@@ -76,8 +68,8 @@ marked_none [] = refl
 marked_none (f ∷ q) = ap₂ (λ x xs. x ∷ xs) (one f.item f.begins_key) (marked_none q)
   where
     one : (i : Item) (b : Bool) → with_flag b i ≡ marked_all [] (with_flag b i)
-    one (OfLexeme l) b = ap (λ c. with_flag c (OfLexeme l)) (sym (or_false b))
-    one (OfComment d) b = ap (λ c. with_flag c (OfComment d)) (sym (or_false b))
+    one (OfLexeme l) b = ap (λ c. with_flag c (OfLexeme l)) (sym (or-false b))
+    one (OfComment d) b = ap (λ c. with_flag c (OfComment d)) (sym (or-false b))
 
 marked_more : (i : Item) (b : Bool) (j : Item) (js : List Item)
     → marked_all js (marked_by j (with_flag b i)) ≡ marked_all (j ∷ js) (with_flag b i)
@@ -85,7 +77,7 @@ marked_more (OfLexeme l) b j js =
     ap (λ c. with_flag c (OfLexeme l)) (or_assoc b (is_key_at (key_of_item j) (OfLexeme l)) (is_keyed l.number js)
     ∙ ap (λ c. b || (c || is_keyed l.number js)) (key_at_is (key_of_item j) (OfLexeme l) l refl))
 marked_more (OfComment d) b j js = ap (λ c. with_flag c (OfComment d))
-    (or_false (b || is_key_at (key_of_item j) (OfComment d)) ∙ ap (λ c. b || c) (comment_key (key_of_item j)))
+    (or-false (b || is_key_at (key_of_item j) (OfComment d)) ∙ ap (λ c. b || c) (comment_key (key_of_item j)))
   where
     comment_key : (key : Option KeyStart) → is_key_at key (OfComment d) ≡ false
     comment_key None = refl
@@ -148,7 +140,7 @@ of_brackets n (b ∷ bs) xs =
 pub possible_is : (n : ℕ) (s : Laid) → is_possible n s ≡ is_in n (possibles s)
 possible_is n s =
     sym (of_brackets n s.brackets (and_key (key_start s.key) [])
-    ∙ ap (λ c. list_any (λ b. is_of n b.key) s.brackets || c) (of_key n s.key [] ∙ or_false (is_of n s.key))
+    ∙ ap (λ c. list_any (λ b. is_of n b.key) s.brackets || c) (of_key n s.key [] ∙ or-false (is_of n s.key))
     ∙ or_comm (list_any (λ b. is_of n b.key) s.brackets) (is_of n s.key))
 
 -- ---- items that were read before
@@ -157,16 +149,12 @@ abbrev pub IsOld : ℕ → Item → Type 0
 IsOld n (OfLexeme l) = l.number < n
 IsOld n (OfComment c) = Unit {0}
 
-not_true : (b : Bool) → not b ≡ true → b ≡ false
-not_true true e = absurd (cc)
-not_true false e = refl
-
 -- what may go may go for ever, and its flag is the last
 pub goes_for_ever : (s t : Laid) (i : Item) (items : List Item) → Chain s items t → IsOld s.number i
     → is_settled s i ≡ true → is_settled t i ≡ true
 goes_for_ever s t (OfLexeme l) items ch old e =
     let none : is_in l.number (possibles s) ≡ false = sym (possible_is l.number s)
-    ∙ not_true (is_possible l.number s) e in
+    ∙ not-true (is_possible l.number s) e in
     ap not (possible_is l.number t ∙ ch.never_again l.number old none)
 goes_for_ever s t (OfComment c) items ch old e = refl
 
@@ -174,6 +162,6 @@ pub not_begun : (s t : Laid) (b : Bool) (i : Item) (items : List Item) → Chain
     → is_settled s i ≡ true → is_begun i (incoming b items) ≡ false
 not_begun s t b (OfLexeme l) items ch old e =
     let none : is_in l.number (possibles s) ≡ false = sym (possible_is l.number s)
-    ∙ not_true (is_possible l.number s) e in
+    ∙ not-true (is_possible l.number s) e in
     keyed_asked b l.number items ∙ ch.keyed l.number old ∙ sub_in l.number _ (possibles s) ch.stacked none
 not_begun s t b (OfComment c) items ch old e = refl

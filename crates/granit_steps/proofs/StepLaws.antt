@@ -1,7 +1,7 @@
 -- What the calls give one by one is what the text tells, and that is the answer of the run.
 use Rattle.std.proofs.Common.{◌≡◌, ℕ, zero, suc, ◌<◌, Bool, true, false, List, [], ◌∷◌, length, Option, Some, None}
 use Rattle.std.proofs.Common.{Result, Ok, Err, refl, sym, ap, ap₂, subst, ◌∙◌, arith, ◌==◌, ◌≤◌}
-use Rattle.std.proofs.lemmas.Bool.Decides.{nat_tests}
+use Rattle.std.proofs.lemmas.Bool.{or_from}
 use Rattle.granit_error.specs.OptionsData.{OptionsData}
 use Rattle.granit_base.specs.Place.{Mark}
 use Rattle.granit_lexemes.specs.Here.{Here, mark_of, start_of}
@@ -24,12 +24,12 @@ use Rattle.granit_steps.specs.Told.{EventsTold, before_told, told_behind, fed, p
 use Rattle.granit_steps.specs.Told.{told_of, answer, GivesEvents, gives_end, gives_fault, gives_event, FlagsOf}
 use Rattle.granit_machine.proofs.LexLengths.{ReadFits, read-fits}
 use Rattle.granit_machine.proofs.ReadLengths.{reader_len}
-use Rattle.granit_steps.proofs.Chains.{LexChain, pieces_chain, not_behind}
+use Rattle.granit_steps.proofs.Chains.{LexChain, pieces_chain, not_behind, greater_false}
 use Rattle.granit_steps.proofs.Futures.{read_out, future_of, future, Ready, IsReady, IsStill, TurnKeeps, turn_keeps}
 use Rattle.granit_steps.proofs.Futures.{pushed_nil, length_pushed, length_asked, items_length, size_behind}
 use Rattle.granit_steps.proofs.KeyReads.{possibles, KeysBehind, Items, Lexed, read_keys}
 use Rattle.granit_steps.proofs.Queues.{pushed_asked, possible_is}
-use Rattle.granit_steps.proofs.Subs.{is_in, sub_in, sub_rest, both_false}
+use Rattle.granit_steps.proofs.Subs.{is_in, sub_in, sub_rest}
 
 -- ---- the loop
 
@@ -262,13 +262,10 @@ never_possible_again o s t items n is = subst (Once n s) is (once_by n s (read o
 
 -- nor is it possible before its lexeme is read
 
-apart : (m n : ℕ) → m < n → (m == n) ≡ false
-apart m n h = grind (arith, nat_tests)
-
 not_yet_by : (key : Option KeyStart) (number n : ℕ) (before after : List ℕ) → KeysBehind key number before after
     → number < n → is_in n before ≡ false → is_in n after ≡ false
 not_yet_by None number n before after p h e = sub_in n after (number ∷ before) p
-    (both_false (number == n) (is_in n before) (apart number n h) e)
+    (or_from (number == n) (is_in n before) (greater_false number n h) e)
 not_yet_by (Some k) number n before after p h e = sub_in n after before (sub_rest k.number after before p) e
 
 not_yet : (s : Laid) (n : ℕ) (items : List Item) (t : Laid) → Items s.number (possibles s) items t → t.number ≤ n
@@ -368,3 +365,9 @@ turn_shorter o [] (i ∷ is) l p = front_shorter (may_go l i is) o l i is p
 pub step_turn-Shortens : (o : OptionsData) → Shortens step_size (step_turn o)
 unfolding step_turn
 step_turn-Shortens o s after piece e = subst (Shorter s) e (turn_shorter o s.pending s.queue s.reading s.parser)
+
+-- where an event waits no turn fails
+pub turn_waits_on : (o : OptionsData) (s : StepState) (e : PlainEvent) (es : List PlainEvent) → s.pending ≡ e ∷ es
+    → step_turn o s ≡ Ok (None, s)
+unfolding step_turn
+turn_waits_on o s e es waits = ap (λ xs. turn_by o xs s.queue s) waits

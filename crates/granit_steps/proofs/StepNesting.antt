@@ -43,7 +43,7 @@ abbrev pub Agreed : List Level → Stepped → Type 0
 Agreed a (Ok q) = Agrees a q
 Agreed a (Err f) = Unit {0}
 
-agreed_if : (a : List Level) (b : Bool) (x y : Stepped) → Agreed a x → Agreed a y → Agreed a (if b then x else y)
+pub agreed_if : (a : List Level) (b : Bool) (x y : Stepped) → Agreed a x → Agreed a y → Agreed a (if b then x else y)
 agreed_if a true x y p q = p
 agreed_if a false x y p q = q
 

@@ -1,6 +1,7 @@
 -- A run's events are a whole stream, and those before a fault begin one.
 use Rattle.std.proofs.Common.{◌≡◌, ℕ, zero, suc, ◌<◌, ◌||◌, Bool, true, false, List, [], ◌∷◌, ◌++◌, map, Option, Some}
 use Rattle.std.proofs.Common.{None, Result, Ok, Err, refl, sym, ap, subst, ◌∙◌, arith}
+use Rattle.std.proofs.lemmas.Bool.{or_right, or_left}
 use Rattle.std.specs.Prelude.{if◌then◌else◌}
 use Rattle.granit_base.specs.Place.{Mark}
 use Rattle.granit_error.specs.OptionsData.{OptionsData}
@@ -80,16 +81,16 @@ fine_closers m (FlowPair stage ∷ fs) st c = clean_closers m (FlowPair stage �
 
 -- ---- items of which the end is the last lexeme
 
-abbrev OnlyComments : List Item → Type 0
+abbrev pub OnlyComments : List Item → Type 0
 OnlyComments [] = Unit {0}
 OnlyComments (OfLexeme l ∷ is) = ⊥
 OnlyComments (OfComment c ∷ is) = OnlyComments is
 
-abbrev Fit : List Item → Type 0
+abbrev pub Fit : List Item → Type 0
 Fit [] = Unit {0}
 Fit (i ∷ is) = (is_end_item i ≡ true → OnlyComments is) × Fit is
 
-abbrev has_end : List Item → Bool
+abbrev pub has_end : List Item → Bool
 has_end [] = false
 has_end (i ∷ is) = is_end_item i || has_end is
 
@@ -122,22 +123,14 @@ fit_front number before (OfComment c ∷ i ∷ is) items t p f none = absurd p
 fit_front number before (OfLexeme l ∷ is) items t p f none =
     (λ e. only_tail is items p.3 (none e), fit_tail is items p.3 f)
 
-or_true : (a b : Bool) → b ≡ true → (a || b) ≡ true
-or_true true b e = refl
-or_true false b e = e
-
-true_or : (a b : Bool) → a ≡ true → (a || b) ≡ true
-true_or true b e = refl
-true_or false b e = absurd (cc)
-
 end_front : (front items : List Item) → is_end front ≡ true → has_end (front ++ items) ≡ true
 end_front [] items e = absurd (cc)
-end_front (OfLexeme l ∷ is) items e = true_or (is_end_kind l.kind) (has_end (is ++ items)) e
+end_front (OfLexeme l ∷ is) items e = or_left (is_end_kind l.kind) (has_end (is ++ items)) e
 end_front (OfComment c ∷ is) items e = absurd (cc)
 
-end_behind : (front items : List Item) → has_end items ≡ true → has_end (front ++ items) ≡ true
+pub end_behind : (front items : List Item) → has_end items ≡ true → has_end (front ++ items) ≡ true
 end_behind [] items e = e
-end_behind (i ∷ is) items e = or_true (is_end_item i) (has_end (is ++ items)) (end_behind is items e)
+end_behind (i ∷ is) items e = or_right (is_end_item i) (has_end (is ++ items)) (end_behind is items e)
 
 ends_by : (b : Bool) (front items : List Item) → is_end front ≡ b → (b ≡ false → has_end items ≡ true)
     → has_end (front ++ items) ≡ true
@@ -221,7 +214,7 @@ only_front true s i is p q = only_one i.item (in_items is) (in_items (settled s 
     only_one (OfLexeme l) is js p q = absurd p
     only_one (OfComment c) is js p q = q
 
-only_rest : (i : Item) (is : List Item) → OnlyComments (i ∷ is) → OnlyComments is
+pub only_rest : (i : Item) (is : List Item) → OnlyComments (i ∷ is) → OnlyComments is
 only_rest (OfLexeme l) is p = absurd p
 only_rest (OfComment c) is p = p
 

@@ -2,10 +2,11 @@
 -- stream.
 use Rattle.std.proofs.Common.{◌≡◌, ℕ, zero, suc, ◌<◌, ◌-◌, ◌&&◌, ◌||◌, not, Bool, true, false, List, [], ◌∷◌, ◌++◌}
 use Rattle.std.proofs.Common.{Option, Some, None, Result, Ok, Err, refl, sym, ap, ap₂, subst, arith}
+use Rattle.std.proofs.lemmas.Bool.{or_parts}
 use Rattle.std.specs.Prelude.{if◌then◌else◌}
 use Rattle.granit_error.specs.OptionsData.{OptionsData}
 use Rattle.granit_lexemes.specs.Comment.{CommentRead}
-use Rattle.granit_lexemes.specs.Lexeme.{DirectiveKind, Version, TagPrefix, Reserved, KeyStart, LexemeKind, Lexeme, Item}
+use Rattle.granit_lexemes.specs.Lexeme.{DirectiveKind, Version, TagPrefix, Reserved, KeyStart, LexemeKind, Item}
 use Rattle.granit_lexemes.specs.Lexeme.{OfLexeme, OfComment}
 use Rattle.granit_lexemes.specs.Outcome.{Fault, ◌>>=◌}
 use Rattle.granit_lexemes.specs.Pieces.{with_front, then_more, turns, pieces}
@@ -29,17 +30,18 @@ use Rattle.granit_machine.specs.StreamSteps.{at_root, with_version, declared, wi
 use Rattle.granit_machine.specs.StreamSteps.{with_directive}
 use Rattle.granit_machine.specs.StreamSteps.{behind_directives, bare_start, begin_document, without_directives}
 use Rattle.granit_machine.specs.StreamSteps.{when_fresh, when_between, end_document, behind_root, outside}
-use Rattle.granit_machine.specs.TokenSort.{is_key_token, is_bare_colon, ends_entry, column_of_token, token_column}
+use Rattle.granit_machine.specs.TokenSort.{is_key_token, is_bare_colon, ends_entry, token_column}
 use Rattle.granit_machine.specs.TokenSort.{ends_frame, is_right_of, TokenSort, BeginsNode, OfStream, Token, token_of}
 use Rattle.granit_machine.specs.TokenSort.{token_sort, begins_node}
 use Rattle.granit_steps.specs.Levels.{Level, InStream, BeforeNode, BehindNode, behind_event, and_then, behind_events}
 use Rattle.granit_lexemes.specs.PlainEvent as events
 use Rattle.granit_lexemes.specs.Lexeme as lexemes
-use Rattle.granit_machine.proofs.ClosingLemmas.{close_turn-Shortens}
+use Rattle.granit_machine.proofs.ClosingLemmas.{close_turn-Shortens, every_frame_ends}
+use Rattle.granit_machine.proofs.SortLemmas.{end_kind_is}
 use Rattle.granit_steps.proofs.Nesting.{levels_of, NoFrames, Fine, Held, quiet_last, more_left, Is, Agrees, as_is}
 use Rattle.granit_steps.proofs.Nesting.{agrees, flush_is, give_is, finish_agrees, null_is, end_node_agrees}
 use Rattle.granit_steps.proofs.Nesting.{end_properties_agrees}
-use Rattle.granit_steps.proofs.StepNesting.{Agreed, node_agreed, in_sequence_agreed, in_mapping_agreed}
+use Rattle.granit_steps.proofs.StepNesting.{Agreed, node_agreed, in_sequence_agreed, in_mapping_agreed, agreed_if}
 use Rattle.granit_steps.proofs.StepNesting.{in_flow_sequence_agreed, ways, flow_mapping_agreed, flow_pair_agreed}
 
 -- ---- closing
@@ -115,10 +117,6 @@ unfolding pieces
 pieces_closed a o t p x = closes_turns a o t (suc (depth p)) p x (omega arith)
 
 -- ---- around documents
-
-agreed_if : (a : List Level) (b : Bool) (x y : Stepped) → Agreed a x → Agreed a y → Agreed a (if b then x else y)
-agreed_if a true x y p q = p
-agreed_if a false x y p q = q
 
 abbrev Outside : List Level → ParserState → DocumentStage → Type 0
 Outside a p st = Is a p [] st (InStream ∷ [])
@@ -279,10 +277,6 @@ outside_after a o Inside t p x = misplaced_after (is_end_kind t.lexeme.kind) a _
 
 -- ---- one step
 
-end_kind_is : (kind : LexemeKind) → is_end_kind kind ≡ true → kind ≡ lexemes.StreamEnd
-end_kind_is lexemes.StreamEnd e = refl
-end_kind_is kind e = absurd (cc)
-
 end_sort : (b : Bool) (key : Option KeyStart) (kind : LexemeKind) → is_end_kind kind ≡ true
     → token_sort b key kind ≡ OfStream
 end_sort b key lexemes.StreamEnd e = refl
@@ -291,14 +285,6 @@ end_sort b key kind e = absurd (cc)
 ended_if : (a : List Level) (b : Bool) (x y : Stepped) → b ≡ false → EndedR a y → EndedR a (if b then x else y)
 ended_if a true x y e p = absurd (cc)
 ended_if a false x y e p = p
-
-or_left : (a b : Bool) → (a || b) ≡ false → a ≡ false
-or_left true b e = e
-or_left false b e = refl
-
-or_right : (a b : Bool) → (a || b) ≡ false → b ≡ false
-or_right true b e = absurd (cc)
-or_right false b e = e
 
 not_on : (t : Token) (q : NodeProperties) (fs : List Frame) → t.sort ≡ OfStream → t.lexeme.kind ≡ lexemes.StreamEnd
     → goes_on_with t q fs ≡ false
@@ -331,9 +317,6 @@ pair_refuses a o t AtValue p e = tt
 pair_refuses a o t BehindAlone p e = tt
 pair_refuses a o t BehindPair p e = tt
 
-all_end : (t : Token) (column : ℕ) → t.sort ≡ OfStream → ends_frame (token_column t) column ≡ true
-all_end t column e = ap (λ s. ends_frame (column_of_token s t.lexeme.start.place.column) column) e
-
 -- within a document the end of the stream is refused
 end_refused : (a : List Level) (o : OptionsData) (t : Token) (p : ParserState) (f : Frame) (fs : List Frame)
     → ends_top t p (f ∷ fs) ≡ false → t.sort ≡ OfStream → t.lexeme.kind ≡ lexemes.StreamEnd
@@ -341,8 +324,8 @@ end_refused : (a : List Level) (o : OptionsData) (t : Token) (p : ParserState) (
 end_refused a o t p (Root explicit) fs e s k = ended_if a (begins_node t.sort) _ _ (ap begins_node s) tt
 end_refused a o t p (WithProperties q) fs e s k = absurd (let g = ap not (not_on t q fs s k) in cc)
 end_refused a o t p (BlockSequence column indentless) fs e s k = absurd
-    (let g = all_end t column s in let h = or_left (ends_frame (token_column t) column) _ e in cc)
-end_refused a o t p (BlockMapping column stage) fs e s k = absurd (let g = all_end t column s in cc)
+    (let g = every_frame_ends t column s in let h = (or_parts (ends_frame (token_column t) column) _ e).0 in cc)
+end_refused a o t p (BlockMapping column stage) fs e s k = absurd (let g = every_frame_ends t column s in cc)
 end_refused a o t p (FlowSequence false) fs e s k = subst (λ s. EndedR a (at_entry o t s p)) (sym s) tt
 end_refused a o t p (FlowSequence true) fs e s k = subst (λ s. EndedR a (behind_entry_of t s p)) (sym s) tt
 end_refused a o t p (FlowMapping single stage) fs e s k =

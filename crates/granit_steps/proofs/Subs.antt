@@ -1,6 +1,7 @@
 -- Lists of numbers in another list's order, and numbers below one.
-use Rattle.std.proofs.Common.{◌≡◌, ℕ, suc, ◌<◌, ◌≤◌, ◌==◌, ◌||◌, Bool, true, false, List, [], ◌∷◌, Option, Some, None}
+use Rattle.std.proofs.Common.{◌≡◌, ℕ, suc, ◌<◌, ◌≤◌, ◌==◌, ◌||◌, Bool, false, List, [], ◌∷◌, Option, Some, None}
 use Rattle.std.proofs.Common.{◌⊎◌, inl, inr, refl, ap, ◌∙◌, arith}
+use Rattle.std.proofs.lemmas.Bool.{or_parts, or_from}
 use Rattle.std.proofs.lemmas.Bool.Decides.{nat_tests}
 use Rattle.granit_lexemes.specs.Lexeme.{KeyStart}
 use Rattle.granit_machine.specs.Lexing.{and_key}
@@ -45,26 +46,14 @@ abbrev pub is_in : ℕ → List ℕ → Bool
 is_in n [] = false
 is_in n (m ∷ ms) = (m == n) || is_in n ms
 
-pub left_false : (a b : Bool) → (a || b) ≡ false → a ≡ false
-left_false true b e = e
-left_false false b e = refl
-
-pub right_false : (a b : Bool) → (a || b) ≡ false → b ≡ false
-right_false true b e = absurd (cc)
-right_false false b e = e
-
-pub both_false : (a b : Bool) → a ≡ false → b ≡ false → (a || b) ≡ false
-both_false true b p q = p
-both_false false b p q = q
-
 pub sub_in : (n : ℕ) (xs ys : List ℕ) → Sub xs ys → is_in n ys ≡ false → is_in n xs ≡ false
 sub_in n [] [] p e = refl
 sub_in n (x ∷ xs) [] p e = absurd p
-sub_in n xs (y ∷ ys) (inr p) e = sub_in n xs ys p (right_false (y == n) (is_in n ys) e)
+sub_in n xs (y ∷ ys) (inr p) e = sub_in n xs ys p (or_parts (y == n) (is_in n ys) e).1
 sub_in n [] (y ∷ ys) (inl p) e = refl
 sub_in n (x ∷ xs) (y ∷ ys) (inl p) e =
-    both_false (x == n) (is_in n xs) (ap (λ k. k == n) p.0 ∙ left_false (y == n) (is_in n ys) e)
-    (sub_in n xs ys p.1 (right_false (y == n) (is_in n ys) e))
+    or_from (x == n) (is_in n xs) (ap (λ k. k == n) p.0 ∙ (or_parts (y == n) (is_in n ys) e).0)
+    (sub_in n xs ys p.1 (or_parts (y == n) (is_in n ys) e).1)
 
 -- ---- numbers below one
 
@@ -86,7 +75,7 @@ below_suc n (x ∷ xs) p = let less = p.0 in (omega (arith, less), below_suc n x
 pub below_not : (n m : ℕ) (xs : List ℕ) → n ≤ m → Below n xs → is_in m xs ≡ false
 below_not n m [] h p = refl
 below_not n m (x ∷ xs) h p = let less = p.0 in let e : (x == m)
-    ≡ false = grind (arith, nat_tests) in both_false (x == m) (is_in m xs) e (below_not n m xs h p.1)
+    ≡ false = grind (arith, nat_tests) in or_from (x == m) (is_in m xs) e (below_not n m xs h p.1)
 
 pub sub_key : (k : Option KeyStart) (xs ys : List ℕ) → Sub xs ys → Sub (and_key k xs) (and_key k ys)
 sub_key None xs ys p = p

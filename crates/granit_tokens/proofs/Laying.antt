@@ -1,7 +1,7 @@
 -- What is inserted before a lexeme passes what is open where a state of the reader stands.
 use Rattle.std.proofs.Common.{◌≡◌, ℕ, suc, ◌-◌, ◌==◌, ◌&&◌, ◌||◌, not, Bool, true, false, List, [], ◌∷◌, map, length}
 use Rattle.std.proofs.Common.{Option, Some, None, refl, sym, ap, ap₂, ◌∙◌, subst, arith}
-use Rattle.std.specs.Prelude.{if◌then◌else◌, nat_lt}
+use Rattle.std.specs.Prelude.{if◌then◌else◌}
 use Rattle.std.proofs.lemmas.Bool.Decides.{nat_tests}
 use Rattle.std.proofs.lemmas.List.{length-map}
 use Rattle.granit_language.specs.OpenColumns.{columns_of}
@@ -16,38 +16,19 @@ use Rattle.granit_lexemes.specs.declared.layout.OpenBracket.{OpenBracket}
 use Rattle.granit_lexemes.specs.declared.layout.OpenColumn.{OpenColumn}
 use Rattle.granit_machine.specs.Columns.{up_to_column}
 use Rattle.granit_machine.specs.Laid.{Laid, is_opener, is_nonempty, is_in_flow, in_square, innermost_column, is_column}
-use Rattle.granit_reading.proofs.ColumnsKept.{chosen, pop, popped}
+use Rattle.granit_reading.proofs.ColumnsKept.{pop, popped}
 use Rattle.granit_steps.specs.Tokens.{Own, left_open, ended_blocks, is_new_column, is_bare_colon_of}
 use Rattle.granit_steps.specs.Tokens.{begins_single, top_pair, with_pair_if, pairs_behind, tail_token, inserted}
 use Rattle.granit_steps.specs.Tokens.{tokens_of, pairs_of}
 use Rattle.granit_answers.specs.Order.{open_behind, closes_innermost, due_behind, KeepsKey}
 use Rattle.granit_answers.proofs.BracketsPassed.{kinds_in}
-use Rattle.granit_answers.proofs.ColumnLists.{edges, due_pushed, columns_behind}
+use Rattle.granit_answers.proofs.ColumnLists.{edges, due_pushed, columns_behind, pop_suc, pop_all}
+use Rattle.granit_answers.proofs.KeysKept.{shut}
 use Rattle.granit_tokens.proofs.Openings.{Openings, kind_passed, and_then, passed, passed_both}
 use Rattle.granit_tokens.proofs.Stacks.{blocks, open_at, shaped, is_new, IsFlaggedNode, DueFits, PairsInside, ends_pair}
 use Rattle.granit_tokens.proofs.Stacks.{in_brackets, outside_passed, own_outside, inside_behind}
 
 -- ---- columns, counted from 1
-
-pop_suc : (k : ℕ) (ns : List ℕ) → map suc (pop k ns) ≡ pop (suc k) (map suc ns)
-pop_suc k [] = refl
-pop_suc k (n ∷ ns) = on (nat_lt k n) refl (pop_suc k ns)
-  where
-    on : (v : Bool) → nat_lt k n ≡ v → map suc (pop k ns) ≡ pop (suc k) (map suc ns)
-        → map suc (chosen v (pop k ns) (n ∷ ns))
-        ≡ chosen (nat_lt (suc k) (suc n)) (pop (suc k) (map suc ns)) (suc n ∷ map suc ns)
-    on true e more =
-        let f : nat_lt (suc k) (suc n) ≡ true = grind (arith, nat_tests, e) in
-        more ∙ sym (ap (λ v. chosen v (pop (suc k) (map suc ns)) (suc n ∷ map suc ns)) f)
-    on false e more =
-        let f : nat_lt (suc k) (suc n) ≡ false = grind (arith, nat_tests, e) in
-        sym (ap (λ v. chosen v (pop (suc k) (map suc ns)) (suc n ∷ map suc ns)) f)
-
-pop_all : (ns : List ℕ) → [] ≡ pop 0 (map suc ns)
-pop_all [] = refl
-pop_all (n ∷ ns) =
-    let f : nat_lt 0 (suc n) ≡ true = grind (arith, nat_tests) in
-    pop_all ns ∙ sym (ap (λ v. chosen v (pop 0 (map suc ns)) (suc n ∷ map suc ns)) f)
 
 abbrev edges_in : List OpenColumn → List ℕ
 edges_in cs = map suc (map (λ (c : OpenColumn). c.column) cs)
@@ -162,10 +143,6 @@ own_passed : (x : Lexeme) (b c : Openings) → kind_passed x.kind b ≡ Some c
     → passed (Own x ∷ tail_token x.tail) b ≡ Some c
 own_passed x b c e = ap (λ r. and_then r (passed (tail_token x.tail))) e ∙ tail_passed x.tail c
 
-no_brackets : (bs : List OpenBracket) → kinds_in bs ≡ [] → bs ≡ []
-no_brackets [] e = refl
-no_brackets (b ∷ bs) e = absurd cc
-
 some_brackets : (bs : List OpenBracket) (b : Bracket) (cs : List Bracket) → kinds_in bs ≡ b ∷ cs
     → is_nonempty bs ≡ true
 some_brackets [] b cs e = absurd cc
@@ -198,13 +175,13 @@ module _ (s : Laid) (x : Lexeme) (flag : Bool) (ps : List Bool) where
 
     unsingle : kinds_in s.brackets ≡ [] → begins_single flag x s ≡ false
     unsingle none = ap (λ (bs : List OpenBracket). in_square bs
-        && (flag || (is_bare_colon_of x.kind x.key && is_opener s.last))) (no_brackets s.brackets none)
+        && (flag || (is_bare_colon_of x.kind x.key && is_opener s.last))) (shut s.brackets none)
 
     outside : (due : Option ℕ) → kinds_in s.brackets ≡ [] → closes_innermost (terminal_kind x.kind x.key) [] ≡ true
         → KeepsKey [] due (terminal_of flag no_scope x) → PairsInside [] ps → DueFits due (edges s) → Passes [] due
     outside due none closes keeps pairs fits =
         let out : is_in_flow s ≡ false = ap (λ (bs : List OpenBracket). is_nonempty bs)
-        (no_brackets s.brackets none) in
+        (shut s.brackets none) in
         let p = outside_passed x x.kind x.key x.start flag ps (edges s) closes pairs node due
         (λ c e. keeps.begins_none c refl e) (λ c e. keeps.stands_right c refl e) fits in
         record {

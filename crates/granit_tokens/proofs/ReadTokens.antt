@@ -7,7 +7,7 @@ use Rattle.granit_language.specs.Before.{freshened, closed_for}
 use Rattle.granit_language.specs.Fitting.{role_of, outer_keys}
 use Rattle.granit_language.specs.Reached.{ends_column_by, Reads, of_comment, of_lexeme}
 use Rattle.granit_language.specs.Scope.{no_scope}
-use Rattle.granit_language.specs.Seen.{Flagged, terminal_kind, at_of, lexemes_flagged}
+use Rattle.granit_language.specs.Seen.{Flagged, terminal_kind, at_of, lexemes_flagged, key_number}
 use Rattle.granit_lexemes.specs.Comment.{CommentRead}
 use Rattle.granit_lexemes.specs.Here.{mark_of}
 use Rattle.granit_lexemes.specs.Lexeme.{LexemeKind, Open, Close, Colon, Alias, Anchor, Tag, Scalar, KeyStart, Lexeme}
@@ -24,7 +24,7 @@ use Rattle.granit_machine.specs.ReaderState.{ReaderState}
 use Rattle.granit_reading.proofs.Choosing.{Held, Within, Below, below_within, below_others, Chosen, nones, chosen_none}
 use Rattle.granit_reading.proofs.Choosing.{chosen_within, not_nearest, Moves, role_key, stepped}
 use Rattle.granit_reading.proofs.Holding.{held_in, held, full, fresh-within}
-use Rattle.granit_reading.proofs.Moving.{start_number, agrees_held, lexeme_moved, closed_held}
+use Rattle.granit_reading.proofs.Moving.{agrees_held, lexeme_moved, closed_held}
 use Rattle.granit_reading.proofs.Telling.{gap_agrees, telling}
 use Rattle.granit_steps.specs.Flags.{is_keyed, flags}
 use Rattle.granit_steps.specs.Tokens.{tokens_of, pairs_of, begins_single, with_pair_if, StateItem, item_in, tokens}
@@ -34,7 +34,7 @@ use Rattle.granit_answers.proofs.BracketsKept.{fresh_kinds, closed_same}
 use Rattle.granit_answers.proofs.BracketsPassed.{kinds_in, Passed, passed}
 use Rattle.granit_answers.proofs.ColumnLists.{KeysTo, columns_behind, edges}
 use Rattle.granit_answers.proofs.KeysKept.{due_of, Aim, KeyFits}
-use Rattle.granit_answers.proofs.KeysMoved.{outer_in}
+use Rattle.granit_answers.proofs.KeysMoved.{outer_in, clash}
 use Rattle.granit_tokens.proofs.Laying.{Fresh, lexeme_passes, pairs_after}
 use Rattle.granit_tokens.proofs.Openings as openings
 use Rattle.granit_tokens.proofs.Openings.{Openings, passed_both}
@@ -65,7 +65,7 @@ node_flag kind key new n hs gs ks ns b m c flag e f = no_flag n gs ks ns (below_
 
 -- ---- no lexeme but a `:` has a key
 
-only_colons : (kind : LexemeKind) (key : Option KeyStart) → start_number key ≡ role_key (role_of kind key)
+only_colons : (kind : LexemeKind) (key : Option KeyStart) → key_number key ≡ role_key (role_of kind key)
     → has_key key ≡ is_keyed_kind kind key
 only_colons Colon key e = refl
 only_colons kind None e = refl
@@ -87,14 +87,11 @@ pub record Said (s : Laid) (x : Lexeme) (after : Laid) : Type 0 where
   pub opener : (ks : Held) (ns : List ℕ) → Chosen (held after) ks ns → (flag : Bool) → is_nearest x.number ns ≡ flag
       → is_nonempty (kinds_in s.brackets) ≡ true → flag ≡ true → is_opener s.last ≡ true
 
-clash : {A : Type 0} (v : Bool) → v ≡ true → v ≡ false → A
-clash v e f = absurd cc
-
 -- by the state in front of the lexeme, and the one behind it
 said_by : (s l behind after : Laid) (x : Lexeme) → kinds_in l.brackets ≡ kinds_in s.brackets
     → is_opener l.last ≡ is_opener s.last → x.number ≡ l.number → Below l.number (held l) → Passed l x behind
     → kinds_in after.brackets ≡ kinds_in behind.brackets → is_opener after.last ≡ is_opener behind.last
-    → Within (held after) (held behind) → start_number x.key ≡ role_key (role_of x.kind x.key) → Said s x after
+    → Within (held after) (held behind) → key_number x.key ≡ role_key (role_of x.kind x.key) → Said s x after
 said_by s l behind after x k a n b p j d w h = record {
   keyed = only_colons x.kind x.key h;
   closes = ap (λ kind. closes_innermost kind (kinds_in s.brackets)) p.term_is

@@ -2,6 +2,7 @@
 -- it.
 use Rattle.std.proofs.Common.{◌≡◌, ℕ, suc, ◌-◌, ◌≤◌, ◌==◌, ◌&&◌, not, Bool, true, false, List, [], ◌∷◌, ◌++◌, drop}
 use Rattle.std.proofs.Common.{length, replicate, Option, Some, None, refl, sym, ap, ◌∙◌, subst, arith}
+use Rattle.std.proofs.Math.Bool.{and-false, and-true}
 use Rattle.std.specs.Prelude.{nat_lt}
 use Rattle.std.proofs.lemmas.Bool.Decides.{nat_tests}
 use Rattle.granit_agreement.specs.Fair.{is_key_part}
@@ -138,14 +139,6 @@ entry_passed : (what : Insertion) (m : Mark) (e : ℕ) (cs : List ℕ)
 entry_passed what m e cs p =
     starts_passed (is_new e cs) what m (blocks cs) p ∙ ap (λ (st : Openings). Some st) (pushed_blocks e cs)
 
-and_true : (v : Bool) → (v && true) ≡ v
-and_true true = refl
-and_true false = refl
-
-and_false : (v : Bool) → (v && false) ≡ false
-and_false true = refl
-and_false false = refl
-
 pub unflagged : (flag : Bool) → (flag ≡ true → ◌≡◌ {A = Bool} false true) → flag ≡ false
 unflagged true p = absurd (let e = p refl in cc)
 unflagged false p = refl
@@ -153,13 +146,13 @@ unflagged false p = refl
 unstarted : (v flag : Bool) (m : Mark) (st : Openings) → flag ≡ false
     → passed (insert_if (v && flag) BlockMappingStart m) st ≡ Some st
 unstarted v flag m st e =
-    ap (λ b. passed (insert_if b BlockMappingStart m) st) (ap (λ b. v && b) e ∙ and_false v)
+    ap (λ b. passed (insert_if b BlockMappingStart m) st) (ap (λ b. v && b) e ∙ and-false v)
 
 node_started : (flag : Bool) (m : Mark) (e : ℕ) (cs : List ℕ)
     → passed (insert_if (is_new e cs && flag) BlockMappingStart m) (blocks cs)
     ≡ Some (blocks (due_pushed (due_if flag e None) cs))
 node_started true m e cs =
-    ap (λ b. passed (insert_if b BlockMappingStart m) (blocks cs)) (and_true (is_new e cs))
+    ap (λ b. passed (insert_if b BlockMappingStart m) (blocks cs)) (and-true (is_new e cs))
     ∙ entry_passed BlockMappingStart m e cs refl
 node_started false m e cs = unstarted (is_new e cs) false m (blocks cs) refl
 
@@ -176,7 +169,7 @@ module _ (x : Lexeme) (flag : Bool) (m : Mark) (cs : List ℕ) where
   start_passed Dash key p = entry_passed BlockSequenceStart m (edge (spot flag x)) cs refl
   start_passed Question key p = entry_passed BlockMappingStart m (edge (spot flag x)) cs refl
   start_passed Colon None p =
-      ap (λ b. passed (insert_if b BlockMappingStart m) (blocks cs)) (and_true (is_new (edge (spot flag x)) cs))
+      ap (λ b. passed (insert_if b BlockMappingStart m) (blocks cs)) (and-true (is_new (edge (spot flag x)) cs))
       ∙ entry_passed BlockMappingStart m (edge (spot flag x)) cs refl
   start_passed Colon (Some k) p = unstarted (is_new (edge (spot flag x)) cs) false m (blocks cs) refl
   start_passed (Open b) key p = node_started flag m (edge (spot flag x)) cs

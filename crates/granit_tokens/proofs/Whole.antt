@@ -1,5 +1,5 @@
 -- Behind the end of a text nothing is open: its tokens balance.
-use Rattle.std.proofs.Common.{◌≡◌, ℕ, suc, ◌≤◌, Bool, true, false, List, [], ◌++◌, map, Option, Some, None, Result, Ok}
+use Rattle.std.proofs.Common.{◌≡◌, ℕ, suc, ◌≤◌, Bool, true, List, [], ◌++◌, map, Option, Some, None, Result, Ok}
 use Rattle.std.proofs.Common.{Err, refl, sym, ap, ap₂, ◌∙◌}
 use Rattle.std.specs.Prelude.{is_none}
 use Rattle.granit_answers.proofs.BracketsKept.{fresh_kinds}
@@ -13,7 +13,7 @@ use Rattle.granit_language.specs.Reached.{ends_column_by, Reads, of_comment, of_
 use Rattle.granit_language.specs.Reached.{whole_stops}
 use Rattle.granit_language.specs.Reached.{whole_goes_on}
 use Rattle.granit_lexemes.specs.Here.{Here, mark_of, start_of}
-use Rattle.granit_lexemes.specs.Lexeme.{LexemeKind, Lexeme, Item}
+use Rattle.granit_lexemes.specs.Lexeme.{Lexeme, Item}
 use Rattle.granit_lexemes.specs.Outcome.{Fault}
 use Rattle.granit_lexemes.specs.PlainEvent.{PlainEvent}
 use Rattle.granit_lexemes.specs.declared.layout.OpenBracket.{OpenBracket}
@@ -27,6 +27,7 @@ use Rattle.granit_machine.specs.Machine.{run}
 use Rattle.granit_machine.specs.PossibleKeys.{keyed_brackets}
 use Rattle.granit_machine.specs.Reader.{LexState, is_end_kind, is_end}
 use Rattle.granit_machine.specs.ReaderState.{ReaderState}
+use Rattle.granit_reading.proofs.SortAnswers.{kind_not_end}
 use Rattle.granit_reading.proofs.Telling.{SaysOf, Agrees, telling}
 use Rattle.granit_reading.proofs.WholeLaw.{lexed_whole}
 use Rattle.granit_steps.proofs.TokenLemmas.{paired_items}
@@ -41,10 +42,6 @@ use Rattle.granit_tokens.specs.Balanced.{Balanced, BeginsBalanced, block_starts,
 abbrev IsClosed : Laid → Type 0
 IsClosed t = (kinds_in t.brackets ≡ []) × (edges t ≡ [])
 
-not_end : {A : Type 0} (kind : LexemeKind) (x : Lexeme) → x.kind ≡ kind → is_end_kind kind ≡ false
-    → is_end_kind x.kind ≡ true → A
-not_end kind x k n e = absurd (let f = ap is_end_kind k in cc (e, f, n))
-
 module _ (o : OptionsData) (h : Here) (l : Laid) (x : Lexeme) (cut : Option Mark) (reached : Here)
     (after : Laid) where
   end_leaves : (sort : LexemeSort) → SaysOf sort h l x → Agrees after (behind o sort x cut reached h l)
@@ -54,22 +51,22 @@ module _ (o : OptionsData) (h : Here) (l : Laid) (x : Lexeme) (cut : Option Mark
         ∙ ap (λ (bs : List OpenBracket). kinds_in (keyed_brackets None bs)) s.1,
     ap (λ (cs : List OpenColumn). map suc (map (λ (c : OpenColumn). c.column) cs)) a.columns,
   )
-  end_leaves StartMark s a e = not_end _ x s.0.is refl e
-  end_leaves EndMark s a e = not_end _ x s.0.is refl e
-  end_leaves DirectiveSign s a e = not_end _ x s.1.is refl e
+  end_leaves StartMark s a e = kind_not_end _ x s.0.is refl e
+  end_leaves EndMark s a e = kind_not_end _ x s.0.is refl e
+  end_leaves DirectiveSign s a e = kind_not_end _ x s.1.is refl e
   end_leaves Unprintable s a e = absurd s
-  end_leaves (Placed (OpenSign bracket)) s a e = not_end _ x s.is refl e
-  end_leaves (Placed (CloseSign bracket)) s a e = not_end _ x s.0.is refl e
-  end_leaves (Placed CommaSign) s a e = not_end _ x s.is refl e
-  end_leaves (Placed DashSign) s a e = not_end _ x s.0.is refl e
-  end_leaves (Placed QuestionSign) s a e = not_end _ x s.0.is refl e
-  end_leaves (Placed ColonSign) s a e = not_end _ x s.0 refl e
-  end_leaves (Placed AliasSign) s a e = not_end _ x s.1.is refl e
-  end_leaves (Placed AnchorSign) s a e = not_end _ x s.1.is refl e
-  end_leaves (Placed TagSign) s a e = not_end _ x s.2.is refl e
-  end_leaves (Placed (BlockSign literal)) s a e = not_end _ x s.2.is refl e
-  end_leaves (Placed (QuoteSign single)) s a e = not_end _ x s.2.is refl e
-  end_leaves (Placed PlainSign) s a e = not_end _ x s.2.is refl e
+  end_leaves (Placed (OpenSign bracket)) s a e = kind_not_end _ x s.is refl e
+  end_leaves (Placed (CloseSign bracket)) s a e = kind_not_end _ x s.0.is refl e
+  end_leaves (Placed CommaSign) s a e = kind_not_end _ x s.is refl e
+  end_leaves (Placed DashSign) s a e = kind_not_end _ x s.0.is refl e
+  end_leaves (Placed QuestionSign) s a e = kind_not_end _ x s.0.is refl e
+  end_leaves (Placed ColonSign) s a e = kind_not_end _ x s.0 refl e
+  end_leaves (Placed AliasSign) s a e = kind_not_end _ x s.1.is refl e
+  end_leaves (Placed AnchorSign) s a e = kind_not_end _ x s.1.is refl e
+  end_leaves (Placed TagSign) s a e = kind_not_end _ x s.2.is refl e
+  end_leaves (Placed (BlockSign literal)) s a e = kind_not_end _ x s.2.is refl e
+  end_leaves (Placed (QuoteSign single)) s a e = kind_not_end _ x s.2.is refl e
+  end_leaves (Placed PlainSign) s a e = kind_not_end _ x s.2.is refl e
   end_leaves (Placed StrayMark) s a e = absurd s
   end_leaves (Placed NoSign) s a e = absurd s
 

@@ -108,7 +108,7 @@ pub spelled_at : (words : List Written) (i : ℕ)
     → slice_get (spelled words) i ≡ option_map (λ w. encode_utf8_all w.characters) (slice_get words i)
 spelled_at words i = slice_get-map (λ w. encode_utf8_all w.characters) words i
 
-spelled_length : (words : List Written) → length (spelled words) ≡ length words
+pub spelled_length : (words : List Written) → length (spelled words) ≡ length words
 spelled_length words = length-map words (λ w. encode_utf8_all w.characters)
 
 pub a_word_too_many : (words : List Written) → At (spelled words) 0 (codes "selftest") → (n : ℕ) → IsNumber n

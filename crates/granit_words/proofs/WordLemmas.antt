@@ -8,12 +8,13 @@ use Rattle.std.specs.Str.Parse.{digits_value}
 use Rattle.std.specs.Option.{option_map}
 use Rattle.std.specs.Str.{encode_utf8_all}
 use Rattle.std.specs.Cmp.Lexicographic.{pointwise, bytes_decides}
-use Rattle.std.proofs.lemmas.Bool.{eqb-true, eqb-false, eq-eqb}
+use Rattle.std.proofs.lemmas.Bool.{eqb-true, eqb-false, eq-eqb, or_from, or_parts}
 use Rattle.std.proofs.lemmas.List.{append_cancel_left, get_or-map, get_or-set_same, get_or-set_other, length-map}
 use Rattle.std.proofs.lemmas.List.{length-take-le, take_all}
 use Rattle.std.proofs.Math.Seq.{take-suc, split_at}
 use Rattle.granit_base.specs.Written.{Written}
 use Rattle.granit_error.specs.OptionsData.{OptionsData, default_options}
+use Rattle.granit_words.proofs.AskLemmas.{spelled_length}
 use Rattle.granit_words.specs.Words.{switch_text, word_of, IsNumber, Fits, IsSaidBy, set_in, option_of, sets, AreSaidBy}
 use Rattle.granit_words.specs.Words.{SetOnce, set_all, Say, AreInGrammar, GoWrongAt, spelled}
 use Rattle.granit_words.specs.declared.words.Setting.{Setting}
@@ -119,18 +120,6 @@ said_more [] (v ∷ ws) s w p q = absurd p
 said_more (t ∷ ss) [] s w p q = absurd p
 said_more (t ∷ ss) (v ∷ ws) s w p q = (p.0, said_more ss ws s w p.1 q)
 
-or_none : (a b : Bool) → a ≡ false → b ≡ false → (a || b) ≡ false
-or_none true b p q = absurd cc
-or_none false b p q = q
-
-or_left : (a b : Bool) → (a || b) ≡ false → a ≡ false
-or_left true b p = absurd cc
-or_left false b p = refl
-
-or_right : (a b : Bool) → (a || b) ≡ false → b ≡ false
-or_right true b p = absurd cc
-or_right false b p = p
-
 sets_more : (ss : List Setting) (s : Setting) (k : ℕ) → sets (ss ++ s ∷ []) k ≡ (sets ss k || (option_of s == k))
 sets_more [] s k = or_false (option_of s == k)
   where
@@ -158,17 +147,17 @@ other_way j k = on_test (j == k) refl
 once_more : (ss : List Setting) (s : Setting) → SetOnce ss → sets ss (option_of s) ≡ false → SetOnce (ss ++ s ∷ [])
 once_more [] s p q = (refl, tt)
 once_more (t ∷ ss) s p q =
-    let front = or_left (option_of t == option_of s) (sets ss (option_of s)) q in (
-      sets_more ss s (option_of t) ∙ or_none (sets ss (option_of t)) (option_of s == option_of t) p.0
+    let front = (or_parts (option_of t == option_of s) (sets ss (option_of s)) q).0 in (
+      sets_more ss s (option_of t) ∙ or_from (sets ss (option_of t)) (option_of s == option_of t) p.0
           (other_way (option_of s) (option_of t) ∙ front),
-      once_more ss s p.1 (or_right (option_of t == option_of s) (sets ss (option_of s)) q),
+      once_more ss s p.1 (or_parts (option_of t == option_of s) (sets ss (option_of s)) q).1,
     )
 
 once_last : (ss : List Setting) (s : Setting) → SetOnce (ss ++ s ∷ []) → sets ss (option_of s) ≡ false
 once_last [] s p = refl
-once_last (t ∷ ss) s p = or_none (option_of t == option_of s) (sets ss (option_of s))
+once_last (t ∷ ss) s p = or_from (option_of t == option_of s) (sets ss (option_of s))
     (other_way (option_of t) (option_of s)
-    ∙ or_right (sets ss (option_of t)) (option_of s == option_of t) (sym (sets_more ss s (option_of t)) ∙ p.0))
+    ∙ (or_parts (sets ss (option_of t)) (option_of s == option_of t) (sym (sets_more ss s (option_of t)) ∙ p.0)).1)
     (once_last ss s p.1)
 
 set_more : (ss : List Setting) (s : Setting) (o : OptionsData) → set_all (ss ++ s ∷ []) o ≡ set_in s (set_all ss o)
@@ -301,9 +290,6 @@ spelled_at : (words : List Written) (w : Written) (i : ℕ) → i < length words
 spelled_at words w i l is = get_or-map (λ (v : Written). encode_utf8_all v.characters) words i w [] l
     ∙ ap (λ (v : Written). encode_utf8_all v.characters) (sym is)
 
-spelled_length : (words : List Written) → length (spelled words) ≡ length words
-spelled_length words = length-map words (λ (v : Written). encode_utf8_all v.characters)
-
 flag_on : (v : Bool) (flags : List Bool) (j k : ℕ) (seen : Bool) → j < length flags → (j == k) ≡ v
     → get_or flags k false ≡ seen → get_or (set flags j true) k false ≡ (seen || v)
 flag_on true flags j k seen l t e = ap (λ (i : ℕ). get_or (set flags j true) i false) (sym (eqb-true j k t))
@@ -435,7 +421,7 @@ front_said (s ∷ ss) [] rest w p q = (
   s ∷ [],
   (p.0, tt),
   (refl, tt),
-  λ k e. or_none (option_of s == k) false (or_left (option_of s == k) (sets ss k) e) refl,
+  λ k e. or_from (option_of s == k) false (or_parts (option_of s == k) (sets ss k) e).0 refl,
 )
 front_said [] (v ∷ ws) rest w p q = absurd p
 front_said (s ∷ ss) (v ∷ ws) rest w p q =
@@ -443,8 +429,8 @@ front_said (s ∷ ss) (v ∷ ws) rest w p q =
       s ∷ h.0,
       (p.0, h.1),
       (h.3 (option_of s) q.0, h.2),
-      λ k e. or_none (option_of s == k) (sets h.0 k) (or_left (option_of s == k) (sets ss k) e)
-          (h.3 k (or_right (option_of s == k) (sets ss k) e)),
+      λ k e. or_from (option_of s == k) (sets h.0 k) (or_parts (option_of s == k) (sets ss k) e).0
+          (h.3 k (or_parts (option_of s == k) (sets ss k) e).1),
     )
 
 pub right_or_wrong : (words : List (List ℕ)) (k : ℕ) → AreInGrammar words → GoWrongAt words k → ⊥

@@ -2,6 +2,7 @@ use Rattle.std.proofs.Common.{◌≡◌, ◌==◌, ℕ, true, false, Result, Err
 use Rattle.std.proofs.lemmas.Bool.Decides.{nat_tests}
 use Rattle.std.proofs.lemmas.Result.{err_from_is_err_and}
 use Rattle.granit_base.specs.Written.{string_chars}
+use Rattle.granit_blocks.proofs.BlockCauses.{lines_refused}
 use Rattle.granit_error.specs.Refused.{Refused}
 use Rattle.granit_lexemes.specs.BlockHeader.{Chomping}
 use Rattle.granit_lexemes.specs.BlockScalar.{BlockRead, content_lines}
@@ -11,14 +12,14 @@ use Rattle.granit_lexemes.specs.Outcome.{Fault}
 use Rattle.granit_cursor.specs.Reading.{Stands, GivesTo}
 use Rattle.granit_cursor.proofs.MoveLemmas.{cleared}
 use Rattle.granit_block.specs.BlockCode.{header_data, content_data}
-use Rattle.granit_block.proofs.ContentLemmas.{lines_strange, lines_tab, lines_go}
+use Rattle.granit_block.proofs.ContentLemmas.{lines_tab, lines_go}
 use Rattle.granit_block.proofs.content.read_lines.Goals as goal
 
 pub returns-in_err-refuse_unprintable-clause-here : goal.returns-in_err-refuse_unprintable-clause-here
 returns-in_err-refuse_unprintable-clause-here g c = λ h k.
     let p = err_from_is_err_and c.from_residual.result c.from_residual.ensures.1 in
     let bad = c.in_err-refuse_unprintable.ensures.here h k in
-    rw (p.1, p.2) (λ other. lines_strange c.args.literal (header_data c.args.header) c.args.broken
+    rw (p.1, p.2) (λ other. lines_refused c.args.literal (header_data c.args.header) c.args.broken
     c.args.at.now.block_column c.args.start h bad.0 ∙ ap (λ (f : Refused). Err f) (sym bad.1))
 
 pub returns-then-peek-eq9-clause-here : goal.returns-then-peek-eq9-clause-here

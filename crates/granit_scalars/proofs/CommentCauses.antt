@@ -9,14 +9,14 @@ use Rattle.granit_lexemes.specs.Outcome.{Fault, fault_at}
 use Rattle.granit_scalars.proofs.Comments.{comment_reads, same_run, no_comment_strange, not_both}
 use Rattle.granit_scalars.proofs.Nameless.{comment_none}
 
-spoiled_once : (x cs ds : List ℕ) (c d : ℕ) → IsSpoiled x cs c → IsSpoiled x ds d → (cs ≡ ds) × (c ≡ d)
+pub spoiled_once : (x cs ds : List ℕ) (c d : ℕ) → IsSpoiled x cs c → IsSpoiled x ds d → (cs ≡ ds) × (c ≡ d)
 spoiled_once x cs ds c d p q =
     let joined : cs ++ c ∷ p.behind ≡ ds ++ d ∷ q.behind = let e = sym p.spelled ∙ q.spelled in cc in
     let s = same_run is_comment_char cs ds (c ∷ p.behind) (d ∷ q.behind) joined p.text q.text
     (no_comment_strange c p.unprintable) (no_comment_strange d q.unprintable) in
     (s.0, ap first s.1)
 
-spoils_once : (h : Here) {kind other : FaultKind} {m n : Mark} → Spoils h kind m → Spoils h other n
+pub spoils_once : (h : Here) {kind other : FaultKind} {m n : Mark} → Spoils h kind m → Spoils h other n
     → (kind ≡ other) × (m ≡ n)
 spoils_once h p q =
     let s = spoiled_once h.unread.text p.front q.front p.character q.character p.spelled q.spelled in (
@@ -25,7 +25,7 @@ spoils_once h p q =
           ∙ ap (λ (cs : List ℕ). mark_of (steps (suc (length cs)) h)) s.0 ∙ sym q.marks,
     )
 
-comment_wrong : (h : Here) {kind : FaultKind} {m : Mark} → Spoils h kind m → (r : Result (CommentRead × Here) Fault)
+pub comment_wrong : (h : Here) {kind : FaultKind} {m : Mark} → Spoils h kind m → (r : Result (CommentRead × Here) Fault)
     → comment h ≡ r → ReadsComment h r → r ≡ Err (fault_at kind m)
 comment_wrong h p (Ok (c, after)) e read = absurd
     (not_both h.unread.text c.text.characters p.front p.character read.spelled p.spelled)
