@@ -1,5 +1,5 @@
 //! A document is dropped, and what waits is looked at.
-ghost use Rattle.std.specs.Prelude.{◌≡◌, ◌++◌, [], length, slice_get, OnOk};
+ghost use Rattle.std.specs.Prelude.{◌≡◌, ◌++◌, [], length, slice_get, IsOk, OnOk};
 ghost use Rattle.std.specs.Option.{option_copied, option_map};
 ghost use Rattle.granit_event.specs.Events.{plain_event, plain_events};
 ghost use Rattle.granit_machine.specs.Frames.{parser_start};
@@ -63,10 +63,11 @@ impl<'input> ParserState<'input> {
     ///
     /// # Errors
     ///
-    /// `NoMemory` alone.
+    /// `NoMemory` alone, and where all were taken, none at all.
     pub fn put_before(&mut self, events: VecDeque<(Event<'input>, Span)>) -> Result<(), NoMemory>
-        ensures { OnOk result (self.new
+        ensures put { OnOk result (self.new
             ≡ record self.old { given = plain_events events.entry.items ++ self.old.given }) }
+        ensures memory { self.old.given ≡ [] → IsOk result }
     {
         let mut events = events;
         events.append(&mut self.given)?;

@@ -50,7 +50,7 @@ returns-in_ok-put_before-in-Ok-clause-known g c = λ m at told.
     turns_behind unread o m behind (record behind { parser = c.put_before.new.self }) c.in-Ok.made es
     (c.take_events-waiting.ensures.taken ∙ sym (waiting unread inside m here first))
     (ap (λ (s : Stepping g.row.T.Denot). s.first) c.self-2.view_is ∙ c.in-Ok.ensures.keeps.first ∙ first)
-    (ap (λ (p : ParserState). record behind { parser = p }) c.in_ok-put_before-in-Ok.ensures) there
+    (ap (λ (p : ParserState). record behind { parser = p }) c.in_ok-put_before-in-Ok.ensures.put) there
 
 pub returns-in-Err-clause-refused : goal.returns-in-Err-clause-refused
 returns-in-Err-clause-refused g c = λ m at told calm other.

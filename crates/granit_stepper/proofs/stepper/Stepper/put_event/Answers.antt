@@ -21,7 +21,7 @@ returns-clause-put g c =
     let is : plain_events c.push_back.new.self.items ≡ plain_event c.args.event ∷ [] = ap plain_events
     (c.in_ok-push_back.ensures.items
     ∙ ap (λ (xs : List (Event × Span)). xs ++ c.args.event ∷ []) c.new-events.ensures.items) in
-    ap (λ (p : ParserState). record inside { parser = p }) (c.in_ok-put_before.ensures
+    ap (λ (p : ParserState). record inside { parser = p }) (c.in_ok-put_before.ensures.put
     ∙ ap (λ (es : List PlainEvent). record (inside.parser) { given = es ++ inside.parser.given }) is)
     ∙ ap (λ (s : Stepping g.row.T.Denot). record s {
       parser = record (s.parser) { given = plain_event c.args.event ∷ s.parser.given };

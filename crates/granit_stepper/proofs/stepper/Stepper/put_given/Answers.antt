@@ -16,7 +16,7 @@ returns-clause-same g c =
       ahead = c.self.inside.ahead;
       refusal = c.self.inside.refusal;
     } in
-    ap (λ (p : ParserState). record inside { parser = p }) (c.in_ok-put_before.ensures
+    ap (λ (p : ParserState). record inside { parser = p }) (c.in_ok-put_before.ensures.put
     ∙ ap (λ (es : List PlainEvent). record (inside.parser) { given = es ++ inside.parser.given })
     (ap plain_events (c.from.ensures.0 ∙ c.clear.ensures.items)))
     ∙ c.self.view_is
