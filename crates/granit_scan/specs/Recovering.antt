@@ -1,5 +1,5 @@
 -- What recovery needs to know of a scanner, and where it then stands.
-use Rattle.std.specs.Prelude.{◌≡◌, ◌++◌, List, Option, Some, None, Result, Ok, Err, IfOk}
+use Rattle.std.specs.Prelude.{◌≡◌, ◌<◌, ◌^◌, ◌++◌, false, List, Option, Some, None, Result, Ok, Err, IfOk}
 use Rattle.granit_base.specs.Place.{Unread}
 use Rattle.granit_cursor.specs.Reading.{CameOn, Reading, Stands}
 use Rattle.granit_error.specs.FaultKind.{NoMemory}
@@ -9,10 +9,11 @@ use Rattle.granit_input.specs.Origin.{Origin}
 use Rattle.granit_lexemes.specs.Here.{Here}
 use Rattle.granit_lexemes.specs.Onward.{Onward}
 use Rattle.granit_lexemes.specs.Outcome.{Fault}
-use Rattle.granit_scan.specs.Marks.{proceeded}
+use Rattle.granit_scan.specs.Marks.{handed, mark_in, proceeded}
 use Rattle.granit_scan.specs.Scanning.{ScannerIn, TokenScanning, UnlessFailed, first_tokens}
 use Rattle.granit_scan.specs.TokenSteps.{TokenState, token_turn}
 use Rattle.granit_scan.specs.TokenViews.{PlainToken}
+use Rattle.granit_scanner.specs.Restarts.{finds_start}
 use Rattle.granit_steps.specs.Told.{parsers_items}
 
 -- a cursor is where reading stands, or came on from there where a read was refused
@@ -66,3 +67,15 @@ abbrev pub ProceedsUnless : {I : Type 0} → (I → Unread → Type 0) → (I �
     → Option PlainToken → TokenState → (old new : TokenScanning I) → Type 0
 ProceedsUnless unread origin r t m old new =
     UnlessFailed origin old new (λ e. r ≡ Err e) (IfOk r (λ x. ScannerProceeds unread old.items.cursor t m new))
+
+-- Recovery makes no lexeme: memory never ran out, no token that was handed back or waits is a mark, and reading goes on
+-- at an item that waits, at a `...` or at the end; fewer lexemes were read than any text has.
+pub record MakesNoLexeme {I : Type 0} (unread : I → Unread → Type 0) (t : Option PlainToken) (s : TokenScanning I)
+    : Type 0 where
+  pub going : s.wants_memory ≡ false
+  pub found : s.items.cursor.lost ≡ false
+  pub number : s.items.laid.number < 2 ^ 63
+  pub unmarked : mark_in (handed t ++ s.writer.waiting) ≡ None
+  pub at : Here
+  pub stands : Stands unread s.items.cursor at
+  pub no_start : finds_start at s.items.queue ≡ false

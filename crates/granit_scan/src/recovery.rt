@@ -1,9 +1,9 @@
 //! Behind an error tokens are read from the next document boundary on.
-ghost use Rattle.std.specs.Prelude.{◌≡◌, true, false, IfErr, IfOk, IfSome};
+ghost use Rattle.std.specs.Prelude.{◌≡◌, true, false, IfErr, IfOk, IfSome, IsOk};
 ghost use Rattle.std.specs.Option.{option_map};
 ghost use Rattle.granit_cursor.specs.Reading.{Moves};
 ghost use Rattle.granit_error.specs.FaultKind as faults;
-ghost use Rattle.granit_scan.specs.Recovering.{ProceedsUnless, Rests, ScannerProceeds};
+ghost use Rattle.granit_scan.specs.Recovering.{MakesNoLexeme, ProceedsUnless, Rests, ScannerProceeds};
 ghost use Rattle.granit_scan.specs.Scanning as spec;
 ghost use Rattle.granit_scan.specs.Scanning.{CallFails, KeepsCopy, MovesAsked, ScannerIn, ScannerKeeps, UnlessFailed};
 ghost use Rattle.granit_scan.specs.TokenMemory.{KeepsWhole};
@@ -24,8 +24,8 @@ impl<'input, T: BorrowedInput<'input>> Scanner<'input, T> {
     ///
     /// # Errors
     ///
-    /// The error of the input's source, and `NoMemory`. Then no token is given any more, and each further call answers
-    /// that again.
+    /// The error of the input's source, and `NoMemory`, where a mark that was read is kept or a `---` of the text is
+    /// read. Then no token is given any more, and each further call answers that again.
     pub fn proceed_next_document(&mut self, token: Option<Token<'input>>) -> Result<(), ScanError>
         ensures known { (m : TokenState) → Rests T.unread self.old m
             → IfSome token.entry (λ t. self.old.first ≡ None)
@@ -36,6 +36,8 @@ impl<'input, T: BorrowedInput<'input>> Scanner<'input, T> {
         ensures source { UnlessFailed T.origin self.old self.new
             (λ e. (result ≡ Err e) × KeepsCopy (Some e) self.new.source_error)
             (IfErr result (λ e. e.kind ≡ faults.NoMemory) × (self.new.source_error ≡ None)) }
+        ensures memory { MakesNoLexeme T.unread (option_map plain_token token.entry) self.old
+            → UnlessFailed T.origin self.old self.new (λ e. Unit {0}) (IsOk result) }
         ensures copied { UnlessFailed T.origin self.old self.new (λ e. KeepsWhole e self.new.source_error) (Unit {0}) }
         ensures going { IfOk result (λ x. self.new ≡ spec.revived self.new) }
         ensures failed { IfErr result (λ e. CallFails self.old self.new e.kind) }
@@ -76,6 +78,8 @@ impl<'input, T: BorrowedInput<'input>> Scanner<'input, T> {
         ensures source { UnlessFailed T.origin self.old self.new
             (λ e. (result ≡ Err e) × KeepsCopy (Some e) self.new.source_error)
             (IfErr result (λ e. e.kind ≡ faults.NoMemory) × (self.new.source_error ≡ None)) }
+        ensures memory { MakesNoLexeme T.unread (option_map plain_token token.entry) self.old
+            → UnlessFailed T.origin self.old self.new (λ e. Unit {0}) (IsOk result) }
         ensures copied { UnlessFailed T.origin self.old self.new (λ e. KeepsWhole e self.new.source_error) (Unit {0}) }
         ensures over { self.old.wants_memory ≡ true → IfOk result (λ x. ⊥) }
         ensures keeps { ScannerKeeps (record self.old { source_error = self.new.source_error }) self.new }
@@ -96,6 +100,7 @@ impl<'input, T: BorrowedInput<'input>> Scanner<'input, T> {
             → IfOk result (λ x. ScannerProceeds T.unread self.old.items.cursor (option_map plain_token token.entry) m
             (spec.revived self.new)) }
         ensures refused { IfErr result (λ e. e.kind ≡ faults.NoMemory) }
+        ensures memory { MakesNoLexeme T.unread (option_map plain_token token.entry) self.old → IsOk result }
         ensures over { self.old.wants_memory ≡ true → IfOk result (λ x. ⊥) }
         ensures keeps { ScannerKeeps self.old self.new }
         ensures moves { Moves T.unread T.left T.origin self.old.items.cursor self.new.items.cursor }

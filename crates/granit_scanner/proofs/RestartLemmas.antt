@@ -12,11 +12,11 @@ use Rattle.granit_lexemes.specs.Moves.{steps}
 use Rattle.granit_machine.specs.Laid.{Laid, laid_start}
 use Rattle.granit_machine.specs.Lexing.{FlaggedItem}
 use Rattle.granit_machine.specs.ReaderState.{lexeme_to}
-use Rattle.granit_restart.specs.Boundary.{AtStart, AtTextEnd, Boundary, PastEnd}
+use Rattle.granit_restart.specs.Boundary.{AtStart, AtTextEnd, Boundary, PastEnd, next_boundary}
 use Rattle.granit_restart.specs.Header.{ends_in_directive, last_is_directive}
 use Rattle.granit_restart.specs.Restart.{anew, at_boundary, at_found, behind_fault_at, boundary_of, is_boundary}
 use Rattle.granit_restart.specs.Restart.{laid_anew, lexeme_or, read_boundary, start_found}
-use Rattle.granit_scanner.specs.Restarts.{Restarts}
+use Rattle.granit_scanner.specs.Restarts.{Restarts, finds_start, finds_start_by, is_start_in_text}
 use Rattle.granit_scanner.specs.Scans.{KnownBy, Scanning}
 use Rattle.granit_steps.specs.Steps.{StepState, unflagged}
 
@@ -134,3 +134,17 @@ module _ {I : Type 0} (unread : I → Unread → Type 0) (n : Scanning I) (s : S
   start_anew Lands mark begins_line (AtStart k) there starts = starts k there.0 there.1 there.2
   start_anew Lands mark begins_line (PastEnd k) there starts = absurd there
   start_anew Lands mark begins_line (AtTextEnd k) there starts = absurd there
+
+-- ---- what makes a lexeme
+
+-- what isn't a `---` of the text is found as something else
+pub no_start : (Lands : Here → Type 0) (mark : Mark) (begins_line : Bool) (b : Boundary)
+    → FoundAs Lands (found.Start mark begins_line) b → is_start_in_text b ≡ false → ⊥
+no_start Lands mark begins_line (AtStart k) there none = absurd cc
+no_start Lands mark begins_line (PastEnd k) there none = there
+no_start Lands mark begins_line (AtTextEnd k) there none = there
+
+-- nothing that was read is a boundary, so it is told by the text
+pub text_tells : (h : Here) (q : List FlaggedItem) → None ≡ read_boundary h q → finds_start h q ≡ false
+    → is_start_in_text (next_boundary h) ≡ false
+text_tells h q none free = ap (λ (r : Option Lexeme). finds_start_by r (next_boundary h)) none ∙ free

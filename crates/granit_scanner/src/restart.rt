@@ -1,5 +1,5 @@
 //! Behind a refusal items are read from the next document boundary on.
-ghost use Rattle.std.specs.Prelude.{◌≡◌, ◌<◌, ◌≤◌, ◌^◌, ◌++◌, false, [], None, Some, IfOk, OnOk};
+ghost use Rattle.std.specs.Prelude.{◌≡◌, ◌<◌, ◌≤◌, ◌^◌, ◌++◌, false, [], None, Some, IfOk, IsOk, OnOk};
 ghost use Rattle.std.specs.Option.{option_map};
 ghost use Rattle.granit_cursor.specs.Reading.{GoesTo, Moves, Stands};
 ghost use Rattle.granit_items.specs.ItemViews.{boxed_lexeme, item_view, kind_view, lexeme_view};
@@ -8,7 +8,7 @@ ghost use Rattle.granit_restart.specs.Boundary.{next_boundary};
 ghost use Rattle.granit_restart.specs.Header as header;
 ghost use Rattle.granit_restart.specs.Restart as spec;
 ghost use Rattle.granit_machine.specs.Reader.{LexState};
-ghost use Rattle.granit_scanner.specs.Restarts.{Restarts, front_items};
+ghost use Rattle.granit_scanner.specs.Restarts.{Restarts, finds_start, front_items, is_start_in_text};
 ghost use Rattle.granit_scanner.specs.Scans as scans;
 ghost use Rattle.granit_scanner.specs.Scans.{Known};
 ghost use Rattle.granit_steps.specs.Steps.{StepState};
@@ -29,7 +29,7 @@ impl<'input, T: BorrowedInput<'input>> Scanner<'input, T> {
     ///
     /// # Errors
     ///
-    /// `NoMemory` alone.
+    /// `NoMemory` alone, and where that boundary is no `---` of the text, only behind 2^63 lexemes.
     pub fn restart(
         &mut self,
         front: Option<Box<Lexeme<'input>>>,
@@ -39,6 +39,8 @@ impl<'input, T: BorrowedInput<'input>> Scanner<'input, T> {
             → self.old.laid.number ≡ s.reading.reader.laid.number
             → spec.read_boundary h s.queue ≡ spec.read_boundary h (front_items front.entry ++ self.old.queue)
             → IfOk result (Restarts T.unread (spec.behind_fault_at h s) self.new) }
+        ensures memory { (h : Here) → Stands T.unread self.old.cursor h → self.old.laid.number < 2 ^ 63
+            → finds_start h (front_items front.entry ++ self.old.queue) ≡ false → IsOk result }
         ensures options { self.new.options ≡ self.old.options }
         ensures moves { Moves T.unread T.left T.origin self.old.cursor self.new.cursor }
     {
@@ -86,6 +88,7 @@ impl<'input, T: BorrowedInput<'input>> Scanner<'input, T> {
             → self.old.laid.number ≡ s.reading.reader.laid.number
             → IfOk result (Restarts T.unread
             (spec.at_lexeme h s (kind_view lexeme.entry.value.kind) (boxed_lexeme lexeme.entry)) self.new) }
+        ensures memory { IsOk result }
         ensures options { self.new.options ≡ self.old.options }
         ensures cursor { self.new.cursor ≡ self.old.cursor }
     {
@@ -113,6 +116,8 @@ impl<'input, T: BorrowedInput<'input>> Scanner<'input, T> {
         ensures known { (s : StepState) (h : Here) → Stands T.unread self.old.cursor h
             → self.old.laid.number ≡ s.reading.reader.laid.number
             → IfOk result (Restarts T.unread (spec.at_boundary s (next_boundary h)) self.new) }
+        ensures memory { (h : Here) → Stands T.unread self.old.cursor h
+            → is_start_in_text (next_boundary h) ≡ false → IsOk result }
         ensures options { self.new.options ≡ self.old.options }
         ensures moves { Moves T.unread T.left T.origin self.old.cursor self.new.cursor }
     {
@@ -166,6 +171,7 @@ impl<'input, T: BorrowedInput<'input>> Scanner<'input, T> {
     ) -> Result<(), NoMemory>
         requires { self.old.queue ≡ [] }
         ensures front { OnOk result (self.new ≡ record self.old { queue = front_items (Some lexeme.entry) }) }
+        ensures memory { IsOk result }
         ensures options { self.new.options ≡ self.old.options }
         ensures cursor { self.new.cursor ≡ self.old.cursor }
     {

@@ -85,3 +85,19 @@ returns-in-Some-clause-copied g c =
     c.ask_source.ensures.first (ap (λ (s : TokenScanning g.row.T.Denot). s.items) c.in-Some.ensures.rest)
     (λ e. KeepsWhole e c.give_source_error.new.self.source_error) _ c.in-Some.error c.in-Some.ensures.given
     c.in-Some.ensures.memory
+
+pub returns-in-None-clause-memory : goal.returns-in-None-clause-memory
+returns-in-None-clause-memory g c = λ none.
+    ready_gives g.T.Input.origin c.args.self.now c.restart-restarted.new.self c.ask_source.new.self
+    c.give_source_error.new.self c.restart-restarted.ensures.keeps.source_error
+    c.restart-restarted.ensures.moves.1 c.ask_source.ensures.origin c.ask_source.ensures.place
+    c.ask_source.ensures.first (ap (λ (s : TokenScanning g.row.T.Denot). s.items) c.in-None.ensures.rest)
+    _ _ c.in-None.ensures.given (c.restart-restarted.ensures.memory none)
+
+pub returns-in-Some-clause-memory : goal.returns-in-Some-clause-memory
+returns-in-Some-clause-memory g c = λ none.
+    ready_fails g.T.Input.origin c.args.self.now c.restart-restarted.new.self c.ask_source.new.self
+    c.give_source_error.new.self c.restart-restarted.ensures.keeps.source_error
+    c.restart-restarted.ensures.moves.1 c.ask_source.ensures.origin c.ask_source.ensures.place
+    c.ask_source.ensures.first (ap (λ (s : TokenScanning g.row.T.Denot). s.items) c.in-Some.ensures.rest)
+    (λ e. Unit {0}) _ c.in-Some.error c.in-Some.ensures.given (tt {0})

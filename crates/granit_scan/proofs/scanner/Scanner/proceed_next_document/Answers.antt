@@ -77,3 +77,15 @@ returns-in-Err-clause-copied g c =
     let kept = ap (λ (s : TokenScanning g.row.T.Denot). s.source_error) c.stop.ensures in
     failed_on g.T.Input.origin c.args.self.now c.proceed.new.self c.stop.new.self same
     (λ e whole. subst (λ (r : Option Refused). KeepsWhole e r) (sym kept) whole) (λ u. u) c.in-Err.ensures.copied
+
+pub returns-in-Ok-clause-memory : goal.returns-in-Ok-clause-memory
+returns-in-Ok-clause-memory g c = λ none.
+    let same = ap (λ (s : TokenScanning g.row.T.Denot). s.items) c.revive.ensures in
+    failed_on g.T.Input.origin c.args.self.now c.proceed.new.self c.revive.new.self same (λ e u. u) (λ is. is)
+    (c.in-Ok.ensures.memory none)
+
+pub returns-in-Err-clause-memory : goal.returns-in-Err-clause-memory
+returns-in-Err-clause-memory g c = λ none.
+    let same = ap (λ (s : TokenScanning g.row.T.Denot). s.items) c.stop.ensures in
+    failed_on g.T.Input.origin c.args.self.now c.proceed.new.self c.stop.new.self same (λ e u. u) (λ is. is)
+    (c.in-Err.ensures.memory none)

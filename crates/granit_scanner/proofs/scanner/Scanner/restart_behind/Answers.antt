@@ -6,7 +6,7 @@ use Rattle.granit_lexemes.specs.Moves.{steps}
 use Rattle.granit_machine.specs.Lexing.{FlaggedItem}
 use Rattle.granit_restart.specs.Boundary.{next_boundary}
 use Rattle.granit_restart.specs.Restart.{start_found}
-use Rattle.granit_scanner.proofs.RestartLemmas.{begun_anew, same_anew, start_anew, start_is}
+use Rattle.granit_scanner.proofs.RestartLemmas.{begun_anew, no_start, same_anew, start_anew, start_is}
 use Rattle.granit_scanner.proofs.scanner.Scanner.restart_behind.Goals as goal
 use Rattle.granit_steps.specs.Steps.{unflagged}
 
@@ -33,3 +33,10 @@ returns-in_ok-put_front-in-Start-clause-known g c = λ s h at number.
     (subst (λ r. Stands unread r.cursor (steps 3 k)) (sym again) lands))
     (ap (λ r. r.laid) put ∙ ap (λ r. r.laid) again ∙ same) (ap (λ r. r.queue) put ∙ front)
     (ap (λ r. r.ended) put ∙ ap (λ r. r.ended) again) (ap (λ r. r.fault) put ∙ ap (λ r. r.fault) again))
+
+pub returns-in_err-lexeme-in-Start-clause-memory : goal.returns-in_err-lexeme-in-Start-clause-memory
+returns-in_err-lexeme-in-Start-clause-memory g c = λ h at none.
+    let unread = g.T.Input.unread in
+    let stands = subst (λ r. Stands unread r.cursor h) (sym c.self.view_is) at in
+    absurd (no_start (Stands unread c.pass_to_boundary.new.cursor) c.in-Start.mark c.in-Start.begins_line
+    (next_boundary h) (c.in-Start.ensures.here h stands) none)
