@@ -35,6 +35,9 @@ pub sequence_closer_gives : {X : Type 0} (t : Token) (r : Result X Refused) (p :
 sequence_closer_gives t r p sort is = rw is (close_gives t r p)
 
 module _ (o : OptionsData) (t : Token) {X : Type 0} (r : Result X Refused) (p : ParserState) where
+  pub entry_closer_gives : (sort : TokenSort) → sort ≡ SequenceCloser → StepWantsToGive r p (at_entry o t sort p)
+  entry_closer_gives sort is = rw is (close_gives t r p)
+
   colon_events : (single : Bool) (q : ParserState) → given_count q ≤ given_count (flow_colon o t single q)
   colon_events single q = omega (arith, flush_events q, flush_events (flow_at single AtValue q))
 

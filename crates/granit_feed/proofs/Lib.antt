@@ -1,3 +1,4 @@
+pub mod AnchorGiving
 pub mod AtOnceLemmas
 mod BlockGiving
 mod FlowGiving

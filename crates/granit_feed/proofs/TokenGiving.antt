@@ -18,7 +18,7 @@ use Rattle.granit_nodes.proofs.GivenLemmas.{give_events, first_events, first_giv
 use Rattle.granit_items.specs.ItemViews.{kind_view}
 use Rattle.granit_items.specs.declared.item.LexemeKind.{LexemeKind}
 use Rattle.granit_items.specs.declared.item.LexemeKind.TheVariants as kinds
-use Rattle.granit_feed.specs.Eventless.{TokenTakesToGive}
+use Rattle.granit_feed.specs.Eventless.{StaysAlone, TokenTakesToGive}
 use Rattle.granit_feed.proofs.TailLemmas.{without_tail}
 
 module _ (o : OptionsData) (t : Token) {X : Type 0} (r : Result X Refused) (p : ParserState)
@@ -72,18 +72,25 @@ module _ (o : OptionsData) (t : Token) {X : Type 0} (r : Result X Refused) (p : 
   properties_give q fs is =
       subst (λ (gs : List Frame). StepWantsToGive r p (take_in o gs t p)) (sym is) (first_gives o t r p none)
 
-module _ (o : OptionsData) (t : Token) (next : Option ℕ) (p : ParserState) (takes : TokenTakesToGive t p) where
-  closes_none : close o t p ≡ Ok p
-  closes_none = closed_all o t p takes.stays
-
-  taken_alone : take_lexeme o t next p ≡ take_token o t p
-  taken_alone = without_tail o t next p takes.tailless ∙ ap (λ (r : Stepped). r >>= take_token o t) closes_none
-
+module _ (o : OptionsData) (t : Token) (next : Option ℕ) (p : ParserState) where
   -- where nothing ends before a token, its step is that of the lexeme
-  pub token_wants : {X : Type 0} (q : ParserState) (r : Result X Refused) → close o t p ≡ Ok q
+  module _ (alone : StaysAlone t p) where
+    closes_none : close o t p ≡ Ok p
+    closes_none = closed_all o t p alone.stays
+
+    taken_alone : take_lexeme o t next p ≡ take_token o t p
+    taken_alone = without_tail o t next p alone.tailless ∙ ap (λ (r : Stepped). r >>= take_token o t) closes_none
+
+    pub alone_wants : {X : Type 0} (q : ParserState) (r : Result X Refused) → close o t p ≡ Ok q
+        → (q ≡ p → StepWantsToGive r q (take_token o t q)) → StepWantsToGive r p (take_lexeme o t next p)
+    alone_wants q r closed wants = λ s is few.
+        let both : Ok q ≡ Ok p = sym closed ∙ closes_none in
+        let same : q ≡ p = cc in
+        subst (λ (n : ParserState). StepWantsToGive r n (take_token o t n)) same (wants same) s
+        (sym taken_alone ∙ is) few
+
+  pub token_wants : TokenTakesToGive t p → {X : Type 0} (q : ParserState) (r : Result X Refused) → close o t p ≡ Ok q
       → (keeps_text t.lexeme.kind ≡ false → StepWantsToGive r q (take_token o t q))
       → StepWantsToGive r p (take_lexeme o t next p)
-  token_wants q r closed wants = λ s is few.
-      let both : Ok q ≡ Ok p = sym closed ∙ closes_none in
-      let same : q ≡ p = cc in
-      (rw same at wants) takes.textless s (sym taken_alone ∙ is) few
+  token_wants takes q r closed wants =
+      alone_wants (record { stays = takes.stays; tailless = takes.tailless }) q r closed (λ same. wants takes.textless)

@@ -17,3 +17,8 @@ pub record TokenTakesToGive (t : Token) (p : ParserState) : Type 0 where
 abbrev pub ItemTakesToGive : Item → Bool → ParserState → Type 0
 ItemTakesToGive (OfComment c) begins_key p = ⊥
 ItemTakesToGive (OfLexeme l) begins_key p = TokenTakesToGive (token_of begins_key l) p
+
+-- a token ends no node, and no comment is taken behind it
+pub record StaysAlone (t : Token) (p : ParserState) : Type 0 where
+  pub stays : ends_top t p p.frames ≡ false
+  pub tailless : takes_tail (is_dash_lexeme t.lexeme.kind) t.lexeme.tail ≡ false

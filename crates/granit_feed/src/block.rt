@@ -9,6 +9,7 @@ ghost use Rattle.granit_frames.specs.Refusing.{RefusesByFault};
 ghost use Rattle.granit_frames.specs.StateViews.{has_properties};
 ghost use Rattle.granit_frames.specs.Wanting.{keeps_text, StepWantsToGive, WantsToGive};
 ghost use Rattle.granit_items.specs.ItemViews.{kind_view};
+ghost use Rattle.granit_nodes.specs.Again.{WhereNamedAgain};
 ghost use Rattle.granit_nesting.specs.FrameViews.{pair_view};
 ghost use Rattle.granit_machine.specs.BlockSteps as steps;
 ghost use Rattle.granit_machine.specs.Frames as machine;
@@ -54,6 +55,9 @@ pub(crate) fn in_sequence<'input>(
         → (sorts.is_dash_token (sort_view token.old.sort) ≡ true → state.old.waiting ≡ None)
         → RefusesByFault (answered fault.new result) (steps.in_sequence (options_of options.now)
         (machine_token token.old) column indentless state.old) }
+    ensures again { WhereNamedAgain token.old.lexeme.value.kind state.old (has_properties state.old.frames ≡
+        false → 0 < length state.old.frames → StepWantsToGive (answered fault.new result) state.old
+        (steps.in_sequence (options_of options.now) (machine_token token.old) column indentless state.old)) }
     ensures kept { state.new.kept ≡ state.old.kept }
     ensures eventless { keeps_text (kind_view token.old.lexeme.value.kind) ≡ false
         → has_properties state.old.frames ≡ false → 0 < length state.old.frames
@@ -194,6 +198,10 @@ fn next_pair<'input>(
     ensures by_fault { (sort_view token.old.sort ≡ sorts.BeginsKey → ⊥)
         → RefusesByFault (answered fault.new result) (steps.next_pair (options_of options.now)
         (machine_token token.old) column (pair_view stage) (sort_view token.old.sort) state.old) }
+    ensures again { WhereNamedAgain token.old.lexeme.value.kind state.old (has_properties state.old.frames ≡
+        false → 0 < length state.old.frames → StepWantsToGive (answered fault.new result) state.old
+        (steps.next_pair (options_of options.now) (machine_token token.old) column (pair_view stage) (sort_view
+        token.old.sort) state.old)) }
     ensures kept { state.new.kept ≡ state.old.kept }
     ensures eventless { keeps_text (kind_view token.old.lexeme.value.kind) ≡ false
         → has_properties state.old.frames ≡ false → 0 < length state.old.frames
@@ -231,6 +239,10 @@ fn behind_indicator<'input>(
     ensures by_fault { (sort_view token.old.sort ≡ sorts.BeginsKey → ⊥)
         → RefusesByFault (answered fault.new result) (steps.behind_indicator (options_of options.now)
         (machine_token token.old) column (pair_view stage) state.old) }
+    ensures again { WhereNamedAgain token.old.lexeme.value.kind state.old (has_properties state.old.frames ≡
+        false → 0 < length state.old.frames → StepWantsToGive (answered fault.new result) state.old
+        (steps.behind_indicator (options_of options.now) (machine_token token.old) column (pair_view stage)
+        state.old)) }
     ensures kept { state.new.kept ≡ state.old.kept }
     ensures eventless { keeps_text (kind_view token.old.lexeme.value.kind) ≡ false
         → has_properties state.old.frames ≡ false → 0 < length state.old.frames
@@ -263,6 +275,10 @@ fn at_block_key<'input>(
         (machine_token token.old) (sort_view token.old.sort) state.old) }
     ensures by_fault { RefusesByFault (answered fault.new result) (steps.at_block_key (options_of options.now)
         (machine_token token.old) (sort_view token.old.sort) state.old) }
+    ensures again { WhereNamedAgain token.old.lexeme.value.kind state.old (has_properties state.old.frames ≡
+        false → 0 < length state.old.frames → StepWantsToGive (answered fault.new result) state.old
+        (steps.at_block_key (options_of options.now) (machine_token token.old) (sort_view token.old.sort)
+        state.old)) }
     ensures kept { state.new.kept ≡ state.old.kept }
     ensures eventless { keeps_text (kind_view token.old.lexeme.value.kind) ≡ false
         → has_properties state.old.frames ≡ false → 0 < length state.old.frames
@@ -314,6 +330,10 @@ pub(crate) fn in_mapping<'input>(
     ensures by_fault { (sort_view token.old.sort ≡ sorts.BeginsKey → ⊥)
         → RefusesByFault (answered fault.new result) (steps.in_mapping (options_of options.now)
         (machine_token token.old) column (pair_view stage) state.old) }
+    ensures again { WhereNamedAgain token.old.lexeme.value.kind state.old (has_properties state.old.frames ≡
+        false → 0 < length state.old.frames → StepWantsToGive (answered fault.new result) state.old
+        (steps.in_mapping (options_of options.now) (machine_token token.old) column (pair_view stage)
+        state.old)) }
     ensures kept { state.new.kept ≡ state.old.kept }
     ensures eventless { keeps_text (kind_view token.old.lexeme.value.kind) ≡ false
         → has_properties state.old.frames ≡ false → 0 < length state.old.frames

@@ -6,16 +6,18 @@ ghost use Rattle.granit_lexemes.specs.Lexeme.{is_directive};
 ghost use Rattle.granit_refused.specs.Answered.{answered};
 ghost use Rattle.granit_sorts.specs.SortViews.{machine_token, sort_view};
 ghost use Rattle.granit_feed.specs.AtOnce.{outside_at_once, ItemAtOnce, TokenAtOnce};
-ghost use Rattle.granit_feed.specs.Eventless.{ItemTakesToGive, TokenTakesToGive};
+ghost use Rattle.granit_feed.specs.Eventless.{ItemTakesToGive, StaysAlone, TokenTakesToGive};
 ghost use Rattle.granit_feed.specs.Handles.{holds_directive, KeepsIfRefused};
 ghost use Rattle.granit_feed.specs.Tails as tails;
 ghost use Rattle.granit_frames.specs.Outside.{NoneWaitsOutside};
 ghost use Rattle.granit_frames.specs.Refusing.{RefusesByFault};
 ghost use Rattle.granit_frames.specs.Wanting.{keeps_text, StepWantsToGive};
-ghost use Rattle.granit_items.specs.ItemViews.{boxed_view, item_view, kind_view};
+ghost use Rattle.granit_items.specs.ItemViews.{boxed_lexeme, boxed_view, item_view, kind_view};
+ghost use Rattle.granit_items.specs.declared.item.Item.TheVariants as items;
 ghost use Rattle.granit_machine.specs.Leaving.{LeavesIfRoom};
 ghost use Rattle.granit_machine.specs.Parser as spec;
 ghost use Rattle.granit_machine.specs.TokenSort as sorts;
+ghost use Rattle.granit_nodes.specs.Again.{WhereNamedAgain};
 
 use crate::block::{in_mapping, in_sequence};
 use crate::flow::{in_flow_mapping, in_flow_pair, in_flow_sequence};
@@ -45,6 +47,8 @@ fn take_token<'input>(
         → (state.old.frames ≡ [] → outside_at_once state.old.stage (sort_view token.old.sort) ≡ true)
         → RefusesByFault (answered fault.new result) (spec.take_token (options_of options.now)
         (machine_token token.old) state.old) }
+    ensures again { WhereNamedAgain token.old.lexeme.value.kind state.old (StepWantsToGive (answered fault.new result)
+        state.old (spec.take_token (options_of options.now) (machine_token token.old) state.old)) }
     ensures kept { is_directive (kind_view token.old.lexeme.value.kind) ≡ false → state.new.kept ≡ state.old.kept }
     ensures refused { KeepsIfRefused (answered fault.new result) state.old state.new }
     ensures inside { (state.old.frames ≡ [] → ⊥) → state.new.kept ≡ state.old.kept }
@@ -158,6 +162,10 @@ fn take_lexeme<'input>(
     ensures by_fault { TokenAtOnce (machine_token token.old) state.old
         → RefusesByFault (answered fault.new result) (spec.take_lexeme (options_of options.now)
         (machine_token token.old) next_line state.old) }
+    ensures again { StaysAlone (machine_token token.old) state.old
+        → WhereNamedAgain token.old.lexeme.value.kind state.old
+        (StepWantsToGive (answered fault.new result) state.old
+        (spec.take_lexeme (options_of options.now) (machine_token token.old) next_line state.old)) }
     ensures kept { is_directive (kind_view token.old.lexeme.value.kind) ≡ false → state.new.kept ≡ state.old.kept }
     ensures refused { NoneWaitsOutside state.old → KeepsIfRefused (answered fault.new result) state.old state.new }
     ensures eventless { TokenTakesToGive (machine_token token.old) state.old
@@ -193,6 +201,10 @@ pub fn feed<'input>(
     ensures by_fault { ItemAtOnce (item_view item.entry) begins_key state.old
         → RefusesByFault (answered fault.new result) (spec.take_item (options_of options.now)
         (item_view item.entry) begins_key next_line state.old) }
+    ensures again { (lexeme : _) → item.entry ≡ items.Lexeme lexeme
+        → StaysAlone (sorts.token_of begins_key (boxed_lexeme lexeme)) state.old
+        → WhereNamedAgain lexeme.value.kind state.old (StepWantsToGive (answered fault.new result) state.old
+        (spec.take_item (options_of options.now) (item_view item.entry) begins_key next_line state.old)) }
     ensures kept { holds_directive (item_view item.entry) ≡ false → state.new.kept ≡ state.old.kept }
     ensures refused { NoneWaitsOutside state.old → KeepsIfRefused (answered fault.new result) state.old state.new }
     ensures eventless { ItemTakesToGive (item_view item.entry) begins_key state.old

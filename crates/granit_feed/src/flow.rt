@@ -9,6 +9,7 @@ ghost use Rattle.granit_frames.specs.Refusing.{RefusesByFault};
 ghost use Rattle.granit_frames.specs.StateViews.{has_properties};
 ghost use Rattle.granit_frames.specs.Wanting.{keeps_text, StepWantsToGive, WantsToGive};
 ghost use Rattle.granit_items.specs.ItemViews.{kind_view};
+ghost use Rattle.granit_nodes.specs.Again.{WhereNamedAgain};
 ghost use Rattle.granit_nesting.specs.FrameViews.{frame_view, pair_view};
 ghost use Rattle.granit_machine.specs.FlowSteps as steps;
 ghost use Rattle.granit_machine.specs.Frames as machine;
@@ -153,6 +154,9 @@ fn at_entry<'input>(
         → RefusesByFault (answered fault.new result)
         (steps.at_entry (options_of options.now) (machine_token token.old)
         (sort_view token.old.sort) state.old) }
+    ensures again { WhereNamedAgain token.old.lexeme.value.kind state.old (StepWantsToGive (answered fault.new
+        result) state.old (steps.at_entry (options_of options.now) (machine_token token.old) (sort_view
+        token.old.sort) state.old)) }
     ensures kept { state.new.kept ≡ state.old.kept }
 {
     let start = token.lexeme.start;
@@ -220,6 +224,9 @@ pub(crate) fn in_flow_sequence<'input>(
     ensures by_fault { (sort_view token.old.sort ≡ sorts.BeginsKey → ⊥)
         → RefusesByFault (answered fault.new result) (steps.in_flow_sequence (options_of options.now)
         (machine_token token.old) behind_entry state.old) }
+    ensures again { WhereNamedAgain token.old.lexeme.value.kind state.old (0 < length state.old.frames →
+        StepWantsToGive (answered fault.new result) state.old (steps.in_flow_sequence (options_of options.now)
+        (machine_token token.old) behind_entry state.old)) }
     ensures kept { state.new.kept ≡ state.old.kept }
     ensures eventless { keeps_text (kind_view token.old.lexeme.value.kind) ≡ false
         → 0 < length state.old.frames → StepWantsToGive (answered fault.new result) state.old (steps.in_flow_sequence
@@ -268,6 +275,10 @@ fn before_pair<'input>(
         → RefusesByFault (answered fault.new result)
         (steps.in_flow_mapping_by (options_of options.now)
         (machine_token token.old) single machine.BeforePair (sort_view token.old.sort) state.old) }
+    ensures again { WhereNamedAgain token.old.lexeme.value.kind state.old (has_properties state.old.frames ≡ false →
+        0 < length state.old.frames → StepWantsToGive (answered fault.new result) state.old
+        (steps.in_flow_mapping_by (options_of options.now) (machine_token token.old) single machine.BeforePair
+        (sort_view token.old.sort) state.old)) }
     ensures kept { state.new.kept ≡ state.old.kept }
     ensures eventless { keeps_text (kind_view token.old.lexeme.value.kind) ≡ false
         → has_properties state.old.frames ≡ false → 0 < length state.old.frames
@@ -303,6 +314,10 @@ fn at_flow_key<'input>(
     ensures by_fault { RefusesByFault (answered fault.new result)
         (steps.in_flow_mapping_by (options_of options.now)
         (machine_token token.old) single machine.AtKey (sort_view token.old.sort) state.old) }
+    ensures again { WhereNamedAgain token.old.lexeme.value.kind state.old (has_properties state.old.frames ≡ false →
+        0 < length state.old.frames → StepWantsToGive (answered fault.new result) state.old
+        (steps.in_flow_mapping_by (options_of options.now) (machine_token token.old) single machine.AtKey (sort_view
+        token.old.sort) state.old)) }
     ensures kept { state.new.kept ≡ state.old.kept }
 {
     match token.sort {
@@ -353,6 +368,10 @@ fn at_flow_question<'input>(
     ensures by_fault { RefusesByFault (answered fault.new result)
         (steps.in_flow_mapping_by (options_of options.now)
         (machine_token token.old) single machine.AtQuestion (sort_view token.old.sort) state.old) }
+    ensures again { WhereNamedAgain token.old.lexeme.value.kind state.old (has_properties state.old.frames ≡ false →
+        0 < length state.old.frames → StepWantsToGive (answered fault.new result) state.old
+        (steps.in_flow_mapping_by (options_of options.now) (machine_token token.old) single machine.AtQuestion
+        (sort_view token.old.sort) state.old)) }
     ensures kept { state.new.kept ≡ state.old.kept }
     ensures eventless { keeps_text (kind_view token.old.lexeme.value.kind) ≡ false
         → has_properties state.old.frames ≡ false → 0 < length state.old.frames
@@ -413,6 +432,10 @@ fn at_flow_value<'input>(
     ensures by_fault { RefusesByFault (answered fault.new result)
         (steps.in_flow_mapping_by (options_of options.now)
         (machine_token token.old) single machine.AtValue (sort_view token.old.sort) state.old) }
+    ensures again { WhereNamedAgain token.old.lexeme.value.kind state.old (has_properties state.old.frames ≡ false →
+        0 < length state.old.frames → StepWantsToGive (answered fault.new result) state.old
+        (steps.in_flow_mapping_by (options_of options.now) (machine_token token.old) single machine.AtValue
+        (sort_view token.old.sort) state.old)) }
     ensures kept { state.new.kept ≡ state.old.kept }
     ensures eventless { keeps_text (kind_view token.old.lexeme.value.kind) ≡ false
         → has_properties state.old.frames ≡ false → 0 < length state.old.frames
@@ -498,6 +521,10 @@ pub(crate) fn in_flow_mapping<'input>(
         → RefusesByFault (answered fault.new result)
         (steps.in_flow_mapping_by (options_of options.now)
         (machine_token token.old) single (pair_view stage) (sort_view token.old.sort) state.old) }
+    ensures again { WhereNamedAgain token.old.lexeme.value.kind state.old (has_properties state.old.frames ≡ false →
+        0 < length state.old.frames → StepWantsToGive (answered fault.new result) state.old
+        (steps.in_flow_mapping_by (options_of options.now) (machine_token token.old) single (pair_view stage)
+        (sort_view token.old.sort) state.old)) }
     ensures kept { state.new.kept ≡ state.old.kept }
     ensures eventless { keeps_text (kind_view token.old.lexeme.value.kind) ≡ false
         → has_properties state.old.frames ≡ false → 0 < length state.old.frames
@@ -532,6 +559,9 @@ pub(crate) fn in_flow_pair<'input>(
         (machine_token token.old) (pair_view stage) (sort_view token.old.sort) state.old) }
     ensures by_fault { RefusesByFault (answered fault.new result) (steps.in_flow_pair (options_of options.now)
         (machine_token token.old) (pair_view stage) (sort_view token.old.sort) state.old) }
+    ensures again { WhereNamedAgain token.old.lexeme.value.kind state.old (has_properties state.old.frames ≡ false →
+        0 < length state.old.frames → StepWantsToGive (answered fault.new result) state.old (steps.in_flow_pair
+        (options_of options.now) (machine_token token.old) (pair_view stage) (sort_view token.old.sort) state.old)) }
     ensures kept { state.new.kept ≡ state.old.kept }
     ensures eventless { keeps_text (kind_view token.old.lexeme.value.kind) ≡ false
         → has_properties state.old.frames ≡ false → 0 < length state.old.frames
@@ -555,6 +585,9 @@ fn node_of_pair<'input>(
         (machine_token token.old) machine.AtValue (sort_view token.old.sort) state.old) }
     ensures by_fault { RefusesByFault (answered fault.new result) (steps.in_flow_pair (options_of options.now)
         (machine_token token.old) machine.AtValue (sort_view token.old.sort) state.old) }
+    ensures again { WhereNamedAgain token.old.lexeme.value.kind state.old (has_properties state.old.frames ≡ false →
+        0 < length state.old.frames → StepWantsToGive (answered fault.new result) state.old (steps.in_flow_pair
+        (options_of options.now) (machine_token token.old) machine.AtValue (sort_view token.old.sort) state.old)) }
     ensures kept { state.new.kept ≡ state.old.kept }
 {
     match token.sort {

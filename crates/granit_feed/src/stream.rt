@@ -13,6 +13,7 @@ ghost use Rattle.granit_frames.specs.Wanting.{keeps_text, StepWantsToGive};
 ghost use Rattle.granit_feed.specs.AtOnce.{outside_at_once};
 ghost use Rattle.granit_feed.specs.Handles.{KeepsIfRefused};
 ghost use Rattle.granit_items.specs.ItemViews.{kind_view};
+ghost use Rattle.granit_nodes.specs.Again.{WhereNamedAgain};
 ghost use Rattle.granit_items.specs.declared.item.LexemeKind.TheVariants as kinds;
 ghost use Rattle.granit_lexemes.specs.Lexeme as lexemes;
 ghost use Rattle.granit_lexemes.specs.Lexeme.{is_directive};
@@ -199,6 +200,8 @@ pub(crate) fn at_root<'input>(
     ensures by_fault { (sort_view token.old.sort ≡ sorts.BeginsKey → ⊥)
         → RefusesByFault (answered fault.new result) (steps.at_root (options_of options.now)
         (machine_token token.old) state.old) }
+    ensures again { WhereNamedAgain token.old.lexeme.value.kind state.old (StepWantsToGive (answered fault.new
+        result) state.old (steps.at_root (options_of options.now) (machine_token token.old) state.old)) }
     ensures kept { state.new.kept ≡ state.old.kept }
 {
     if !token.sort.begins_node() {

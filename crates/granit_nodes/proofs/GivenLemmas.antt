@@ -178,7 +178,7 @@ leaf_events o kind source indent p q is =
 
 -- ---- steps that may be refused
 
-bound : {A : Type 0} (r : Result A Fault) (f : A → Stepped) (q : ParserState) → (r >>= f) ≡ Ok q
+pub bound : {A : Type 0} (r : Result A Fault) (f : A → Stepped) (q : ParserState) → (r >>= f) ≡ Ok q
     → (x : A) × (r ≡ Ok x) × (f x ≡ Ok q)
 bound (Ok x) f q is = (x, refl, is)
 bound (Err e) f q is = absurd cc

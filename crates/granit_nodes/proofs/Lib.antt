@@ -1,2 +1,3 @@
+pub mod AgainLemmas
 mod BareLemmas
 pub mod GivenLemmas

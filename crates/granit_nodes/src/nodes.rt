@@ -19,6 +19,7 @@ ghost use Rattle.granit_machine.specs.NodeEnds as ends;
 ghost use Rattle.granit_machine.specs.NodeSteps as steps;
 ghost use Rattle.granit_machine.specs.TokenSort as sorts;
 ghost use Rattle.granit_machine.specs.Leaving.{LeavesIfRoom};
+ghost use Rattle.granit_nodes.specs.Again.{WhereNamedAgain};
 
 use granit_base::{Marker, NoMemory, Placement, Span, StructureStyle, Text};
 use granit_error::{ErrorKind, Options, ScanError};
@@ -465,6 +466,8 @@ pub fn bare<'input>(
         (machine_token token.old) state.old) }
     ensures by_fault { RefusesByFault (answered fault.new result) (steps.bare (options_of options.now)
         (machine_token token.old) state.old) }
+    ensures again { WhereNamedAgain token.old.lexeme.value.kind state.old (StepWantsToGive (answered fault.new result)
+        state.old (steps.bare (options_of options.now) (machine_token token.old) state.old)) }
     ensures kept { state.new.kept ≡ state.old.kept }
 {
     match mem::replace(&mut token.lexeme.kind, LexemeKind::Comma) {
@@ -508,6 +511,8 @@ pub fn node<'input>(
     ensures key { sort_view token.old.sort ≡ sorts.BeginsKey → RefusesByFault (answered fault.new result)
         (ends.begin_block (options_of options.now) ends.block_mapping token.old.lexeme.value.start
         (machine.BlockMapping token.old.lexeme.value.start.place.column machine.AtKey) state.old) }
+    ensures again { WhereNamedAgain token.old.lexeme.value.kind state.old (StepWantsToGive (answered fault.new result)
+        state.old (steps.node (options_of options.now) (machine_token token.old) state.old)) }
     ensures kept { state.new.kept ≡ state.old.kept }
 {
     match token.sort {

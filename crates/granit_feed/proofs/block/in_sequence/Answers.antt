@@ -28,3 +28,10 @@ returns-then-is_right_of-clause-eventless c = λ none bare deep.
       | else-is_dash-via-else-is_dash w ↦
           ap (λ (a : Bool). a && here) (sym c.is_dash.ensures ∙ w.if-is_dash.false)
     ])
+
+pub returns-in_err-give_empty-clause-again : goal.returns-in_err-give_empty-clause-again
+returns-in_err-give_empty-clause-again c = λ name anchor lent left known bare deep q is few.
+    let more = dash_events (options_of c.args.options.now) (machine_token c.args.token.now) c.args.column
+    c.args.indentless c.args.state.now q (sym c.is_dash.ensures ∙ c.if-is_dash.true)
+    (sym c.is_in_column.ensures ∙ c.if-is_in_column.true) is in
+    absurd (true≢false (sym (c.in_err-give_empty.ensures.eventless (omega (arith, few, more)))))

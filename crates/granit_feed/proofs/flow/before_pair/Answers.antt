@@ -27,3 +27,9 @@ pub returns-in-BeginsNode-clause-eventless : goal.returns-in-BeginsNode-clause-e
 returns-in-BeginsNode-clause-eventless c = λ none bare deep.
     node_gives (options_of c.args.options.now) (machine_token c.args.token.now) _ c.args.state.now none
     c.args.single BeforePair (sort_view c.args.token.now.sort) (ap sort_view c.in-BeginsNode.is)
+
+pub returns-in_err-close_flow-in-MappingCloser-clause-again :
+    goal.returns-in_err-close_flow-in-MappingCloser-clause-again
+returns-in_err-close_flow-in-MappingCloser-clause-again c = λ name anchor lent left known bare deep.
+    closer_gives (options_of c.args.options.now) (machine_token c.args.token.now) _ c.args.state.now
+    c.args.single BeforePair (sort_view c.args.token.now.sort) (ap sort_view c.in-MappingCloser.is)

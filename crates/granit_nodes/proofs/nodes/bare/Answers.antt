@@ -29,5 +29,6 @@ returns c =
           (rw c.deref_mut.ensures.value at c.first_colon.ensures.leaves);
       by_fault = subst (λ (r : Stepped). RefusesByFault result r) as_colon
           (rw c.deref_mut.ensures.value at c.first_colon.ensures.by_fault);
+      again = λ name is lent left known. absurd (c.in_default.not-Anchor name (kind ∙ is));
       kept = c.first_colon.ensures.kept;
     }
