@@ -223,12 +223,45 @@ fn refuse_leading_tab<T: Input>(
     if !at.has_tab() {
         return Ok(());
     }
+    refuse_tab_here(options, at, layouts, fault)
+}
+
+/// The same where a tab is among the blanks before it. Apart, since room for its place would be cleared in each gap.
+#[inline(never)]
+fn refuse_tab_here<T: Input>(
+    options: &Options,
+    at: &Cursor<T>,
+    layouts: &Layouts,
+    fault: &mut Option<ScanError>,
+) -> Result<(), Refused>
+    requires window { 1 ≤ T.window at.now.input }
+    ensures here { (h : Here) → Stands T.unread at.now h → answered fault.new result
+        ≡ spec.refuse_tab (options_of options.now) layouts.now (mark_of h) (spec.leading_tab h) }
+    ensures memory { NeverWants (answered fault.new result) }
+{
     layouts.refuse_tab(options, at.mark(), leading_tab(at), fault)
 }
 
 /// Refuses what would go on with a plain scalar that a comment cut short.
 #[inline(always)]
 fn refuse_cut<T: Input>(
+    at: &Cursor<T>,
+    layouts: &Layouts,
+    fault: &mut Option<ScanError>,
+) -> Result<(), Refused>
+    requires window { 4 ≤ T.window at.now.input }
+    ensures here { (h : Here) → Stands T.unread at.now h → answered fault.new result ≡ spec.refuse_cut layouts.now h }
+    ensures memory { NeverWants (answered fault.new result) }
+{
+    if layouts.cut().is_none() {
+        return Ok(());
+    }
+    refuse_behind_cut(at, layouts, fault)
+}
+
+/// The same where one may have been. Apart, since room for its place would be cleared in each gap.
+#[inline(never)]
+fn refuse_behind_cut<T: Input>(
     at: &Cursor<T>,
     layouts: &Layouts,
     fault: &mut Option<ScanError>,

@@ -1,5 +1,5 @@
 //! What all lexemes share.
-ghost use Rattle.std.specs.Prelude.{◌≡◌, ◌<◌, ◌^◌, false};
+ghost use Rattle.std.specs.Prelude.{◌≡◌, ◌<◌, ◌^◌, false, None};
 ghost use Rattle.granit_cursor.specs.Reading.{Moves, Stands, Wherever};
 ghost use Rattle.granit_lexemes.specs.Here.{Here, step};
 ghost use Rattle.granit_machine.specs.ReaderState as spec;
@@ -18,6 +18,7 @@ use granit_layout::Layouts;
 use granit_lexemes::LastLexeme;
 use granit_refused::Refused;
 use std::alloc::Global;
+use std::mem;
 
 /// Where a lexeme begins.
 #[derive(Clone, Copy)]
@@ -52,7 +53,7 @@ pub fn write_lexeme<'input>(
         → lexeme_view found.new ≡ spec.lexeme_to ends (kind_view kind.entry) end h layouts.now }
 {
     found.number = layouts.number();
-    found.kind = kind;
+    put_kind(found, kind);
     found.start = start.mark;
     found.shown_start = start.mark;
     found.shown_end = end;
@@ -62,8 +63,54 @@ pub fn write_lexeme<'input>(
     found.begins_line = start.begins_line;
     found.follows_indicator = layouts.follows_indicator();
     found.ends_column = ends;
-    found.key = None;
-    found.tail = None;
+    clear_key(found);
+    clear_tail(found);
+}
+
+/// The lexeme gets its kind; where the old one owns nothing, it isn't moved to be dropped.
+#[inline(always)]
+fn put_kind<'input>(found: &mut Lexeme<'input>, kind: LexemeKind<'input>)
+    ensures { found.new ≡ record found.old { kind = kind.entry } }
+{
+    if owns_nothing(&found.kind) {
+        mem::forget(mem::replace(&mut found.kind, kind));
+    } else {
+        drop(mem::replace(&mut found.kind, kind));
+    }
+}
+
+/// The lexeme has no key; what had none isn't written.
+#[inline(always)]
+fn clear_key(found: &mut Lexeme<'_>)
+    ensures { found.new ≡ record found.old { key = None } }
+{
+    if found.key.is_some() {
+        found.key = None;
+    }
+}
+
+/// The lexeme has no tail; what had none isn't written.
+#[inline(always)]
+fn clear_tail(found: &mut Lexeme<'_>)
+    ensures { found.new ≡ record found.old { tail = None } }
+{
+    if found.tail.is_some() {
+        found.tail = None;
+    }
+}
+
+/// Whether nothing is freed where what a lexeme is is dropped.
+fn owns_nothing(kind: &LexemeKind<'_>) -> bool {
+    match kind {
+        LexemeKind::Scalar(_, text) => text.is_borrowed(),
+        LexemeKind::Open(_) => true,
+        LexemeKind::Close(_) => true,
+        LexemeKind::Comma => true,
+        LexemeKind::Dash => true,
+        LexemeKind::Question => true,
+        LexemeKind::Colon => true,
+        _ => false,
+    }
 }
 
 /// A lexeme of one character, which is read.

@@ -1,11 +1,15 @@
 //! What stands behind a lexeme on its line: blanks, and a comment that they part from it (YAML 1.2.2, 6.6).
-ghost use Rattle.std.specs.Prelude.{◌≡◌, false, IfOk};
+ghost use Rattle.std.specs.Prelude.{◌≡◌, false, Some, IfOk};
 ghost use Rattle.std.specs.Option.{option_map};
-ghost use Rattle.granit_cursor.specs.Reading.{Moves, Wherever, GivesTo, coded};
+ghost use Rattle.granit_cursor.specs.Reading.{Moves, Stands, Wherever, GivesTo, coded};
+ghost use Rattle.granit_error.specs.FaultKind as faults;
 ghost use Rattle.granit_lexemes.specs.Comment as comments;
+ghost use Rattle.granit_lexemes.specs.Here.{Here, mark_of};
+ghost use Rattle.granit_lexemes.specs.Outcome.{fault_at};
 ghost use Rattle.granit_lexemes.specs.Tail as spec;
 ghost use Rattle.granit_items.specs.ItemViews.{boxed_view};
-ghost use Rattle.granit_refused.specs.Answered.{answered};
+ghost use Rattle.granit_refused.specs.Answered.{answered, why};
+ghost use Rattle.granit_refused.specs.declared.fault.Refused.TheVariants.{Kept};
 ghost use Rattle.granit_content.specs.declared.tail.Tail.TheVariants.{Nothing};
 ghost use Rattle.granit_content.specs.Reads.{NeverWants, comment_kept, seen, seen_comment, tail_view};
 
@@ -64,9 +68,20 @@ pub fn tail_at<'input, T: BorrowedInput<'input>>(
         return Ok(Tail::Nothing);
     }
     if blanks == 0 {
-        return Err(refuse_at(fault, at.mark(), ErrorKind::CommentNotSeparated));
+        return Err(refuse_touching(at, fault));
     }
     comment_at(alloc, at, asked, fault)
+}
+
+/// Refuses a `#` with no blank before it. Apart, since room for its fault would be cleared behind each lexeme.
+#[inline(never)]
+fn refuse_touching<T: Input>(at: &Cursor<T>, fault: &mut Option<ScanError>) -> Refused
+    ensures refusal { result ≡ Kept }
+    ensures kept { (h : Here) → Stands T.unread at.now h
+        → fault.new ≡ Some (fault_at faults.CommentNotSeparated (mark_of h)) }
+    ensures memory { (why fault.new result).kind ≡ faults.NoMemory → ⊥ }
+{
+    refuse_at(fault, at.mark(), ErrorKind::CommentNotSeparated)
 }
 
 /// The comment that begins here with its `#`.
@@ -74,6 +89,7 @@ pub fn tail_at<'input, T: BorrowedInput<'input>>(
 /// # Errors
 ///
 /// `NoMemory`, where comments are asked for, and `UnexpectedCharacter` at a character that isn't printable.
+#[inline(never)]
 #[tactic(auto, unfolding(granit_lexemes::specs::Comment::comment))]
 pub fn comment_at<'input, T: BorrowedInput<'input>>(
     alloc: Global,

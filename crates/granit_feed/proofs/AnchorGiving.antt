@@ -11,7 +11,7 @@ use Rattle.granit_machine.specs.FlowSteps.{in_flow_pair}
 use Rattle.granit_machine.specs.Frames.{DocumentStage, Fresh, Directives, Inside, BehindRoot, Between, Root, AtValue}
 use Rattle.granit_machine.specs.Frames.{ParserState}
 use Rattle.granit_machine.specs.Giving.{give}
-use Rattle.granit_machine.specs.NodeSteps.{misplaced, node}
+use Rattle.granit_machine.specs.NodeSteps.{Stepped, misplaced, node}
 use Rattle.granit_machine.specs.StreamSteps.{bare_start, begin_document, behind_directives, behind_root, outside}
 use Rattle.granit_machine.specs.StreamSteps.{when_between, when_fresh}
 use Rattle.granit_machine.specs.TokenSort.{BeginsNode, Token, TokenSort, begins_node}

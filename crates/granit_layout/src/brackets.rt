@@ -117,8 +117,15 @@ impl Brackets {
         forget_innermost(&mut self.list, &mut self.order);
     }
 
-    /// Without the keys that reading has left behind.
+    /// Whether reading has left none of the keys behind, as far as that is seen at once.
     #[inline(always)]
+    pub(crate) fn is_near(&self, options: &Options, mark: &Marker) -> bool
+        ensures { result ≡ true → map (keys.fresh_bracket (options_of options.now) mark.now) self.now ≡ self.now }
+    {
+        self.order.is_near(options, mark)
+    }
+
+    /// Without the keys that reading has left behind.
     #[tactic(auto, using(crate::proofs::ListLemmas::map_reversed))]
     pub(crate) fn refresh(&mut self, options: &Options, mark: &Marker)
         ensures { self.new ≡ map (keys.fresh_bracket (options_of options.now) mark.now) self.old }

@@ -270,13 +270,48 @@ impl Layouts {
         ensures { Leaves (answered fault.new result) self.new
             (keys.without_stale (options_of options.now) mark self.old) }
     {
+        if self.keeps_keys(options, &mark) {
+            return Ok(());
+        }
+        self.drop_left(options, mark, fault)
+    }
+
+    /// Whether reading has left no key behind a mark, as far as that is seen at once.
+    #[inline(always)]
+    fn keeps_keys(&self, options: &Options, mark: &Marker) -> bool
+        ensures { result ≡ true → keys.without_stale (options_of options.now) mark.now self.now ≡ Ok self.now }
+    {
+        self.keeps_key(options, mark) && self.brackets.is_near(options, mark)
+    }
+
+    /// Whether reading hasn't left the possible key outside brackets behind a mark.
+    #[inline(always)]
+    fn keeps_key(&self, options: &Options, mark: &Marker) -> bool
+        ensures { result ≡ true → without_stale_key (options_of options.now) mark.now self.now ≡ Ok self.now }
+    {
+        match &self.key {
+            None => true,
+            Some(key) => !is_stale(options, self.is_in_flow(), mark, key),
+        }
+    }
+
+    /// Without those that it has. Apart, since room for the mark would be filled at each lexeme.
+    #[inline(never)]
+    fn drop_left(
+        &mut self,
+        options: &Options,
+        mark: Marker,
+        fault: &mut Option<ScanError>,
+    ) -> Result<(), Refused>
+        ensures { Leaves (answered fault.new result) self.new
+            (keys.without_stale (options_of options.now) mark self.old) }
+    {
         self.refresh_key(options, &mark, fault)?;
         self.brackets.refresh(options, &mark);
         Ok(())
     }
 
     /// Without the possible key outside brackets, where reading has left it behind.
-    #[inline(always)]
     fn refresh_key(
         &mut self,
         options: &Options,
@@ -327,9 +362,20 @@ impl Layouts {
             let key = Some(self.new_key(property, mark));
             self.set_top_key(&key);
         } else if self.has_head() {
-            let key = key_goes_on(property, self.is_left(mark.col()), self.top_key());
-            self.set_top_key(&key);
+            self.go_on_from_head(property, mark.col());
         }
+    }
+
+    /// The innermost key, of which only properties were read, goes on. Apart, since few keys begin with one, and room
+    /// for it would be cleared at each node.
+    #[inline(never)]
+    fn go_on_from_head(&mut self, property: bool, column: usize)
+        ensures { self.new ≡ keys.with_top_key
+            (keys.key_goes_on property (layout.is_left (laid.block_column self.old) column) (keys.top_key self.old))
+            self.old }
+    {
+        let key = key_goes_on(property, self.is_left(column), self.top_key());
+        self.set_top_key(&key);
     }
 
     fn new_key(&self, property: bool, mark: Marker) -> PossibleKey
@@ -663,7 +709,17 @@ impl Layouts {
         if moved {
             self.last = no_more_adjacent(self.last);
         }
-        self.cut = None;
+        self.forget_cut();
+    }
+
+    /// No `#` ended the last plain scalar; where none did, nothing is written.
+    #[inline(always)]
+    fn forget_cut(&mut self)
+        ensures { self.new ≡ record self.old { cut = None } }
+    {
+        if self.cut.is_some() {
+            self.cut = None;
+        }
     }
 }
 

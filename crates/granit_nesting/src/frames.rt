@@ -141,7 +141,11 @@ impl Frames {
         ensures memory { 0 < length self.old → IsOk result }
     {
         match self.list.pop() {
-            None => self.push(frame),
+            None => {
+                // a copy: what is lent to a call is filled in memory on either way
+                let own = frame;
+                self.push(own)
+            }
             Some(top) => {
                 self.blocks -= count_of(top);
                 self.list.push_reserved(frame);

@@ -1,5 +1,6 @@
 //! A lexeme where a node must stand (YAML 1.2.2, 6.9, 7.1 and 8.2).
-ghost use Rattle.std.specs.Prelude.{◌≡◌, ◌<◌, true, false, length, nat_le, codes, None, Some, IfOk, IsOk, OnOk};
+ghost use Rattle.std.specs.Prelude.{◌≡◌, ◌<◌, true, false, length, nat_le, codes, None, Ok, Some};
+ghost use Rattle.std.specs.Prelude.{IfOk, IfSome, IsOk, OnOk};
 ghost use Rattle.std.specs.Option.{option_map};
 ghost use Rattle.std.specs.Str.{chars};
 ghost use Rattle.granit_error.specs.OptionsView.{options_of};
@@ -21,7 +22,7 @@ ghost use Rattle.granit_machine.specs.TokenSort as sorts;
 ghost use Rattle.granit_machine.specs.Leaving.{LeavesIfRoom};
 ghost use Rattle.granit_nodes.specs.Again.{WhereNamedAgain};
 
-use granit_base::{Marker, NoMemory, Placement, Span, StructureStyle, Text};
+use granit_base::{Marker, NoMemory, Placement, ScalarStyle, Span, StructureStyle, Text};
 use granit_error::{ErrorKind, Options, ScanError};
 use granit_event::{Event, Tag};
 use granit_frames::{Frame, PairStage, ParserState, Token, TokenSort, length_of, misplaced};
@@ -470,18 +471,91 @@ pub fn bare<'input>(
         state.old (steps.bare (options_of options.now) (machine_token token.old) state.old)) }
     ensures kept { state.new.kept ≡ state.old.kept }
 {
+    match take_scalar(&mut token.lexeme.kind) {
+        Some((style, text)) => Ok(scalar(state, options, style, text, token)?),
+        None => any_bare(state, fault, alloc, options, token),
+    }
+}
+
+/// The scalar that a lexeme is, by how it is written, and its value, which are taken.
+#[inline(always)]
+fn take_scalar<'input>(kind: &mut LexemeKind<'input>) -> Option<(ScalarStyle, Text<'input>)>
+    ensures some { IfSome result (λ x. kind.old ≡ kinds.Scalar x.0 x.1) }
+    ensures none { result ≡ None → kind.new ≡ kind.old }
+{
+    let style = style_of(kind);
+    match take_value(kind) {
+        Some(text) => Some((style, text)),
+        None => None,
+    }
+}
+
+/// How a scalar is written; of another lexeme nothing is told.
+#[inline(always)]
+fn style_of(kind: &LexemeKind<'_>) -> ScalarStyle
+    ensures { (style : _) (text : _) → kind.now ≡ kinds.Scalar style text → result ≡ style }
+{
+    match kind {
+        LexemeKind::Scalar(style, _) => *style,
+        _ => ScalarStyle::Plain,
+    }
+}
+
+/// The value of the scalar that a lexeme is, which is taken.
+#[inline(always)]
+fn take_value<'input>(kind: &mut LexemeKind<'input>) -> Option<Text<'input>>
+    ensures some { IfSome result (λ text. (style : _) × (kind.old ≡ kinds.Scalar style text)) }
+    ensures none { result ≡ None → kind.new ≡ kind.old }
+{
+    match kind {
+        LexemeKind::Scalar(_, text) => Some(mem::replace(text, Text::borrowed(""))),
+        _ => None,
+    }
+}
+
+/// A scalar.
+#[inline(always)]
+fn scalar<'input>(
+    state: &mut ParserState<'input>,
+    options: &Options,
+    style: ScalarStyle,
+    text: Text<'input>,
+    token: &Token<'input>,
+) -> Result<(), NoMemory>
+    ensures leaves { OnOk result (Ok state.new ≡ steps.bare (options_of options.now)
+        (of_kind (kinds.Scalar style text.entry) token.now) state.old) }
+    ensures kept { state.new.kept ≡ state.old.kept }
+{
+    let indent = token.lexeme.indent;
+    leaf(
+        state,
+        options,
+        Event::Scalar(text, style, 0, None),
+        token,
+        indent,
+    )
+}
+
+/// The same of any lexeme. Apart, since room for the names and tags that one may hold would be cleared at each scalar.
+#[inline(never)]
+fn any_bare<'input>(
+    state: &mut ParserState<'input>,
+    fault: &mut Option<ScanError>,
+    alloc: Global,
+    options: &Options,
+    token: &mut Token<'input>,
+) -> Result<(), Refused>
+    ensures leaves { LeavesIfRoom (answered fault.new result) state.new (steps.bare (options_of options.now)
+        (machine_token token.old) state.old) }
+    ensures by_fault { RefusesByFault (answered fault.new result) (steps.bare (options_of options.now)
+        (machine_token token.old) state.old) }
+    ensures again { WhereNamedAgain token.old.lexeme.value.kind state.old (StepWantsToGive (answered fault.new result)
+        state.old (steps.bare (options_of options.now) (machine_token token.old) state.old)) }
+    ensures kept { state.new.kept ≡ state.old.kept }
+{
     match mem::replace(&mut token.lexeme.kind, LexemeKind::Comma) {
         LexemeKind::Alias(name) => alias(state, fault, options, name, token),
-        LexemeKind::Scalar(style, text) => {
-            let indent = token.lexeme.indent;
-            Ok(leaf(
-                state,
-                options,
-                Event::Scalar(text, style, 0, None),
-                token,
-                indent,
-            )?)
-        }
+        LexemeKind::Scalar(style, text) => Ok(scalar(state, options, style, text, token)?),
         LexemeKind::Open(bracket) => Ok(open_flow(state, options, bracket, token)?),
         LexemeKind::Anchor(name) => {
             state.flush()?;

@@ -100,10 +100,11 @@ impl<'input> Items<'input> {
         ensures front { result ≡ slice_get self.old 0 }
         ensures rest { self.new ≡ drop 1 self.old }
     {
-        match self.oldest.take() {
-            None => self.behind.pop_front(),
-            Some(oldest) => Some(oldest),
+        // A place that is empty isn't written.
+        if self.oldest.is_none() {
+            return self.behind.pop_front();
         }
+        self.oldest.take()
     }
 
     /// No more than the oldest ones stay.

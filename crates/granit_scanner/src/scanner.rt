@@ -203,7 +203,6 @@ impl<'input, T: BorrowedInput<'input>> Scanner<'input, T> {
             note: None,
         };
         let mut met = Met::Nothing;
-        let mut fault: Option<ScanError> = None;
         let read = next_found(
             alloc,
             &self.options,
@@ -212,9 +211,9 @@ impl<'input, T: BorrowedInput<'input>> Scanner<'input, T> {
             &mut self.ended,
             &mut found,
             &mut met,
-            &mut fault,
+            &mut self.fault,
         );
-        self.take_read(read, &mut fault, found, rooms, free, number, met)
+        self.take_read(read, found, rooms, free, number, met)
     }
 
     /// The fault of the read that failed, which is then given.
@@ -311,25 +310,40 @@ impl<'input, T: Input> Scanner<'input, T> {
         None
     }
 
-    /// What a read found waits behind the other items; before a fault so many of them stay.
+    /// What a read found waits behind the other items; before a fault, which it kept, so many of them stay.
     fn take_read(
         &mut self,
         read: Result<(), granit_refused::Refused>,
-        fault: &mut Option<ScanError>,
         found: Found<'input>,
         rooms: &mut Rooms<'input>,
         free: usize,
         number: usize,
         met: Met,
     ) -> Result<(), NoMemory>
-        ensures taken { OnOk result (TakesRead (answered fault.old read) (found_items found.entry) free number met
-            self.old self.new) }
+        ensures taken { OnOk result (TakesRead (answered self.old.fault read) (found_items found.entry) free number met
+            (record self.old { fault = None }) self.new) }
         ensures cursor { self.new.cursor ≡ self.old.cursor }
         ensures options { self.new.options ≡ self.old.options }
     {
         match read {
-            Ok(()) => self.queue.push_found(found, rooms),
-            Err(refused) => self.keep(take_fault(refused, fault), free, number, met),
+            Ok(()) => {
+                self.clear_fault();
+                self.queue.push_found(found, rooms)
+            }
+            Err(refused) => {
+                let error = take_fault(refused, &mut self.fault);
+                self.keep(error, free, number, met)
+            }
+        }
+    }
+
+    /// No fault is kept; where none is, nothing is written.
+    #[inline(always)]
+    fn clear_fault(&mut self)
+        ensures { self.new ≡ record self.old { fault = None } }
+    {
+        if self.fault.is_some() {
+            self.fault = None;
         }
     }
 

@@ -1,5 +1,5 @@
 //! The events that come next, behind those that wait.
-ghost use Rattle.std.specs.Prelude.{◌≡◌, ◌∷◌, [], true, false, None, Some, Ok, length, IfErr, OnOk};
+ghost use Rattle.std.specs.Prelude.{◌≡◌, ◌-◌, ◌∷◌, [], true, false, None, Some, Ok, length, IfErr, OnOk};
 ghost use Rattle.granit_cursor.specs.Reading.{Moves};
 ghost use Rattle.granit_error.specs.FaultKind as faults;
 ghost use Rattle.granit_event.specs.Events.{plain_event, plain_events};
@@ -19,6 +19,7 @@ use granit_input::BorrowedInput;
 use granit_refused::{Refused, refuse, take_fault};
 use std::alloc::Global;
 use std::collections::VecDeque;
+use std::mem;
 
 impl<'input, T: BorrowedInput<'input>> Stepper<'input, T> {
     /// The events that come next wait behind those that wait already; false where none comes, as behind the end of the
@@ -146,7 +147,7 @@ impl<'input, T: BorrowedInput<'input>> Stepper<'input, T> {
         ensures renumbered { self.new.renumbered ≡ self.old.renumbered }
     {
         let mut room = room;
-        room.clear();
+        clear_events(&mut room);
         self.parser.put_before(VecDeque::from(room))?;
         Ok(())
     }
@@ -200,5 +201,47 @@ impl<'input, T: BorrowedInput<'input>> Stepper<'input, T> {
         ensures rest { self.new ≡ record self.old { parser = record (self.old.parser) { given = [] } } }
     {
         self.parser.take_events(alloc)
+    }
+}
+
+/// No event is left in a list.
+fn clear_events(events: &mut Vec<(Event<'_>, Span)>)
+    ensures { events.new.items ≡ [] }
+{
+    'events: while !events.is_empty() {
+        drop_last(events);
+    }
+}
+
+/// The last event goes; most own nothing, and aren't moved to be dropped.
+#[inline(always)]
+fn drop_last(events: &mut Vec<(Event<'_>, Span)>)
+    ensures { length events.new.items ≡ length events.old.items - 1 }
+{
+    if last_owns_nothing(events) {
+        mem::forget(events.pop());
+    } else {
+        drop(events.pop());
+    }
+}
+
+/// Whether nothing is freed where the last event is dropped.
+#[inline(always)]
+fn last_owns_nothing(events: &[(Event<'_>, Span)]) -> bool {
+    match events.last() {
+        None => true,
+        Some(last) => owns_nothing(&last.0),
+    }
+}
+
+/// Whether nothing is freed where an event is dropped.
+fn owns_nothing(event: &Event<'_>) -> bool {
+    match event {
+        Event::Scalar(text, _, _, tag) => text.is_borrowed() && tag.is_none(),
+        Event::SequenceStart(_, _, tag) => tag.is_none(),
+        Event::MappingStart(_, _, tag) => tag.is_none(),
+        Event::SequenceEnd => true,
+        Event::MappingEnd => true,
+        _ => false,
     }
 }

@@ -1,24 +1,9 @@
-use Rattle.std.proofs.Common.{◌∙◌, sym, ap}
-use Rattle.granit_base.specs.Place.{Mark}
+use Rattle.std.proofs.Common.{◌∙◌, sym}
 use Rattle.granit_error.specs.OptionsView.{options_of}
-use Rattle.granit_lexemes.specs.Here.{mark_of}
-use Rattle.granit_machine.specs.Gaps.{refuse_tab}
 use Rattle.granit_content.proofs.GapLemmas.{no_leading_tab}
-use Rattle.granit_content.proofs.MemoryLemmas.{tab_refused}
 use Rattle.granit_content.proofs.gaps.refuse_leading_tab.Goals as goal
 
 pub returns-then-not-has_tab-clause-here : goal.returns-then-not-has_tab-clause-here
 returns-then-not-has_tab-clause-here g c = λ h k.
     sym (no_leading_tab (options_of c.args.options.now) c.args.layouts.now h k.3
     (sym c.has_tab.ensures ∙ c.if-not-has_tab.true))
-
-pub returns-clause-here : goal.returns-clause-here
-returns-clause-here g c = λ h k.
-    let o = options_of c.args.options.now in
-    let l = c.args.layouts.now in
-    c.refuse_tab.ensures ∙ ap (λ (m : Mark). refuse_tab o l m c.leading_tab.result) (c.mark.ensures.here h k)
-    ∙ ap (refuse_tab o l (mark_of h)) (c.leading_tab.ensures h k)
-
-pub returns-clause-memory : goal.returns-clause-memory
-returns-clause-memory g c = tab_refused (options_of c.args.options.now) c.args.layouts.now c.mark.result
-    c.leading_tab.result _ c.refuse_tab.ensures

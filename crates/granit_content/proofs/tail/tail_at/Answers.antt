@@ -32,7 +32,7 @@ returns-then-blanks-eq0-clause-here g c = λ h k.
     let found : c.peek.result ≡ next_char now = c.peek.ensures.value now.unread (rw c.input.ensures looked.0) in
     let y : (next_char now == 0x23) ≡ true = grind (arith, nat_tests, found, c.if-peek-ne35.false) in
     let e : (n == 0) ≡ true = grind (arith, nat_tests, c.if-blanks-eq0.true) in
-    λ other. rw (c.refuse_at.ensures.refusal, c.refuse_at.ensures.kept, c.mark.ensures.here now looked)
+    λ other. rw (c.refuse_touching.ensures.refusal, c.refuse_touching.ensures.kept now looked)
     (comment_touches c.args.asked n h run.0 y e)
 
 pub returns-clause-here : goal.returns-clause-here

@@ -1,10 +1,11 @@
-use Rattle.std.proofs.Common.{◌≡◌, false, take, refl, sym, subst}
+use Rattle.std.proofs.Common.{◌≡◌, false, None, take, refl, sym, subst}
 use Rattle.std.proofs.lemmas.Result.{on_ok_weaker}
 use Rattle.granit_error.specs.OptionsView.{options_of}
 use Rattle.granit_items.specs.ItemViews.{found_items}
 use Rattle.granit_machine.specs.Machine.{settled}
 use Rattle.granit_scanner.specs.Scans.{Scanning, Known, ReadsOn, front_goes}
 use Rattle.granit_refused.specs.Answered.{answered}
+use Rattle.granit_scanner.proofs.KnownLemmas.{no_fault}
 use Rattle.granit_scanner.proofs.ReadingLemmas.{stands, read_taken}
 use Rattle.granit_scanner.proofs.scanner.Scanner.read_on.Goals as goal
 
@@ -28,7 +29,7 @@ returns-clause-known g c = λ l q k none waits.
       options = o;
       queue = c.self.inside.queue;
       ended = c.next_found-read.new.ended;
-      fault = c.self.inside.fault;
+      fault = None;
       met = c.self.inside.met;
       held = c.self.inside.held;
     } in
@@ -41,7 +42,8 @@ returns-clause-known g c = λ l q k none waits.
     let meets = c.next_found-read.ensures.met l.reader.here at.0 in
     on_ok_weaker c.take_read.result
     (λ took. subst (λ r. ReadsOn unread r.options c.take_read.new.self l q) c.self.view_is
-    (read_taken unread inside l q o known none mid c.take_read.new.self refl refl c.number-number.result
+    (read_taken unread inside l q o known none mid c.take_read.new.self
+    (sym (no_fault unread inside l q known none)) refl c.number-number.result
     c.next_found-read.new.met c.number-number.ensures c.next_found-read.ensures.moves.2
     (answered c.next_found-read.new.fault c.next_found-read.result)
     (found_items c.next_found-read.new.found) free took waits frees meets

@@ -1,20 +1,18 @@
-use Rattle.std.proofs.Common.{◌∙◌, Ok, sym, ap, subst}
+use Rattle.std.proofs.Common.{◌∙◌, sym, ap, subst}
 use Rattle.granit_error.specs.OptionsView.{options_of}
 use Rattle.granit_frames.specs.Refusing.{RefusesByFault}
 use Rattle.granit_items.specs.declared.item.Lexeme.{Lexeme}
-use Rattle.granit_machine.specs.Frames.{ParserState}
 use Rattle.granit_machine.specs.Leaving.{LeavesIfRoom}
 use Rattle.granit_machine.specs.NodeSteps.{Stepped}
 use Rattle.granit_nodes.proofs.BareLemmas.{as_bare_colon}
-use Rattle.granit_nodes.proofs.nodes.bare.Goals as goal
+use Rattle.granit_nodes.proofs.nodes.any_bare.Goals as goal
 use Rattle.granit_refused.specs.Answered.{answered}
 use Rattle.granit_sorts.specs.SortViews.{machine_token}
 
 pub returns-in-Scalar-clause-leaves : goal.returns-in-Scalar-clause-leaves
 returns-in-Scalar-clause-leaves c =
     let kind = sym (c.in-Scalar.ensures.value ∙ ap (λ (l : Lexeme). l.kind) c.deref_mut.ensures.value) in
-    rw (kind, sym c.deref_mut.ensures.value)
-    (ap (λ (p : ParserState). Ok p) (sym (rw c.deref.ensures at c.in_ok-leaf-in-Scalar.ensures.leaves)))
+    rw (kind, sym c.deref_mut.ensures.value) (sym c.in_ok-scalar-in-Scalar.ensures.leaves)
 
 pub returns : goal.returns
 returns c =

@@ -1,7 +1,7 @@
 use Rattle.std.proofs.lemmas.Result.{err_from_is_err_and}
 use Rattle.granit_layout.proofs.StaleLemmas.{refused_first}
 use Rattle.granit_refused.specs.Answered.{why}
-use Rattle.granit_layout.proofs.layouts.Layouts.drop_stale.Goals as goal
+use Rattle.granit_layout.proofs.layouts.Layouts.drop_left.Goals as goal
 
 pub returns-in_err-refresh_key : goal.returns-in_err-refresh_key
 returns-in_err-refresh_key c =
