@@ -5,15 +5,15 @@ use Rattle.granit_language.specs.Room.{Room, RightOf, ValueIn, KeyIn, BehindKey,
 use Rattle.granit_language.specs.Scope.{Scope}
 use Rattle.granit_language.specs.Scoping.{next_scope}
 use Rattle.granit_language.specs.Terminal.{Terminal, text_start}
-use Rattle.granit_grammar.specs.EventMachine.{Key, KeyDone, Done, Value, OpenFrame, DocumentFrame, PropertiesFrame}
-use Rattle.granit_grammar.specs.EventMachine.{SequenceFrame, MappingFrame, FlowSequenceFrame, FlowMappingFrame}
-use Rattle.granit_grammar.specs.EventMachine.{FlowPairFrame, EventState, IsFresh, HasDirectives, IsRooted, InFrames}
-use Rattle.granit_grammar.specs.EventMachine.{IsEnded, EventStep, GoesTo, StopsWith, ended_by, frames_room, put_frames}
-use Rattle.granit_agreement.specs.Fair.{FairBehind, FairMade, FairIn, FairAt, FairFinish, Fair, frames_below}
+use Rattle.granit_event_machine.specs.EventMachine.{Key, KeyDone, Done, Value, OpenFrame, DocumentFrame, PropertiesFrame}
+use Rattle.granit_event_machine.specs.EventMachine.{SequenceFrame, MappingFrame, FlowSequenceFrame, FlowMappingFrame}
+use Rattle.granit_event_machine.specs.EventMachine.{FlowPairFrame, EventState, IsFresh, HasDirectives, IsRooted, InFrames}
+use Rattle.granit_event_machine.specs.EventMachine.{IsEnded, EventStep, GoesTo, StopsWith, ended_by, frames_room, put_frames}
+use Rattle.granit_views.specs.Fair.{FairBehind, FairMade, FairIn, FairAt, FairFinish, Fair, frames_below}
 use Rattle.granit_agreement.specs.FairTest.{same_test, fair_behind, fair_made, fair_in, fair_at, fair_finish, fair_step}
 use Rattle.granit_agreement.specs.FairTest.{fair_next, fair_run}
-use Rattle.granit_agreement.specs.Running.{FairNext, FairRun}
-use Rattle.granit_agreement.specs.Stepping.{taken}
+use Rattle.granit_views.specs.Running.{FairNext, FairRun}
+use Rattle.granit_views.specs.Stepping.{taken}
 use Rattle.granit_language.specs.Seen.{Flagged, terminal_of}
 
 is_same : (a b : Bool) → same_test a b ≡ true → a ≡ b

@@ -5,23 +5,23 @@ use Rattle.std.proofs.lemmas.List.{append-nil}
 use Rattle.std.specs.Prelude.{nat_le}
 use Rattle.granit_base.specs.Place.{Mark}
 use Rattle.granit_error.specs.OptionsData.{OptionsData}
-use Rattle.granit_agreement.specs.Good.{Good, is_fresh}
-use Rattle.granit_agreement.specs.Running.{Knows, ParserSeen, ComesTo, NextView, FairNext, FairRun}
-use Rattle.granit_agreement.specs.Stepping.{taken, at_kind}
-use Rattle.granit_agreement.specs.View.{Beside, item_of, state_of, waiting_of}
+use Rattle.granit_views.specs.Good.{Good, is_fresh}
+use Rattle.granit_views.specs.Running.{Knows, ParserSeen, ComesTo, NextView, FairNext, FairRun}
+use Rattle.granit_views.specs.Stepping.{taken, at_kind}
+use Rattle.granit_views.specs.View.{Beside, item_of, state_of, waiting_of}
 use Rattle.granit_agreement.proofs.WholeRuns.{told_append, give_told, seen_given, Emptied, Fed, Cleared, fed_ok, fed_is}
 use Rattle.granit_agreement.proofs.WholeRuns.{seen_cleared, knows_cleared, fault_passed, none_stay}
-use Rattle.granit_agreement.proofs.WholeSteps.{step_next}
+use Rattle.granit_frame_steps.proofs.WholeSteps.{step_next}
 use Rattle.granit_language.specs.Seen.{Flagged, terminal_of, terminal_seen}
-use Rattle.granit_grammar.specs.EventMachine.{EventState, IsFresh, HasDirectives, IsRooted, InFrames, IsEnded, Ending}
-use Rattle.granit_grammar.specs.EventMachine.{ending, ended_by, EventStep, GoesTo, StopsWith, after_events, take_frames}
-use Rattle.granit_grammar.specs.Guarded.{state_count, is_loose}
-use Rattle.granit_grammar.specs.PlaceFrames.{state_at}
+use Rattle.granit_event_machine.specs.EventMachine.{EventState, IsFresh, HasDirectives, IsRooted, InFrames, IsEnded, Ending}
+use Rattle.granit_event_machine.specs.EventMachine.{ending, ended_by, EventStep, GoesTo, StopsWith, after_events, take_frames}
+use Rattle.granit_event_machine.specs.Guarded.{state_count, is_loose}
+use Rattle.granit_event_machine.specs.PlaceFrames.{state_at}
 use Rattle.granit_grammar.specs.TreeMachine.{NextPlace, take, TreeAnswer, ReadAs, RefusedAt, Short, at_end, tree_goes}
 use Rattle.granit_grammar.specs.TreeMachine.{parse, tree_start}
-use Rattle.granit_grammar.proofs.AgreeClose.{ending_state, ending_events, close_agrees}
-use Rattle.granit_grammar.proofs.AgreeStep.{StepsTo, goes_to, stops_at, take_agrees}
-use Rattle.granit_grammar.proofs.Limit.{from_zero}
+use Rattle.granit_event_machine.proofs.AgreeClose.{ending_state, ending_events, close_agrees}
+use Rattle.granit_event_machine.proofs.AgreeStep.{StepsTo, goes_to, stops_at, take_agrees}
+use Rattle.granit_event_machine.proofs.Limit.{from_zero}
 use Rattle.granit_grammar.proofs.Placing.{Tells, one_cut}
 use Rattle.granit_language.specs.FaultKinds.{fault_kind_at}
 use Rattle.granit_language.specs.GrammarFault.{GrammarFault, TooManyBlocks}

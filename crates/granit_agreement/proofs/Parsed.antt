@@ -1,9 +1,9 @@
 -- What the parser answers, in words of readings and causes.
-use Rattle.granit_agreement.specs.Running.{FairRun, RunView, ParsedAs, GivesTold}
-use Rattle.granit_agreement.specs.View.{item_of}
+use Rattle.granit_views.specs.Running.{FairRun, RunView, ParsedAs, GivesTold}
+use Rattle.granit_views.specs.View.{item_of}
 use Rattle.granit_language.specs.Seen.{Flagged, terminal_seen}
-use Rattle.granit_grammar.specs.EventMachine.{EventAnswer, Events, Faulty, Unfinished, IsFresh}
-use Rattle.granit_grammar.specs.Guarded.{guarded, whole_guard, whole_run}
+use Rattle.granit_event_machine.specs.EventMachine.{EventAnswer, Events, Faulty, Unfinished, IsFresh}
+use Rattle.granit_event_machine.specs.Guarded.{guarded, whole_guard, whole_run}
 use Rattle.granit_language.specs.GrammarFault.{GrammarFault, fault_of}
 use Rattle.granit_language.specs.Scope.{no_scope}
 use Rattle.granit_language.specs.Scoping.{scoped}
@@ -18,10 +18,10 @@ use Rattle.granit_base.specs.Place.{Mark}
 use Rattle.granit_error.specs.OptionsData.{OptionsData}
 use Rattle.granit_lexemes.specs.Outcome.{Fault}
 use Rattle.granit_lexemes.specs.PlainEvent.{PlainEvent, StreamStart, event_on}
-use Rattle.granit_grammar.proofs.Wholes.{whole_events, whole_streams, whole_faults, whole_never_unfinished, Starts}
-use Rattle.granit_grammar.proofs.Wholes.{whole_viable}
-use Rattle.granit_grammar.proofs.Guards.{NotFaulty}
-use Rattle.granit_grammar.proofs.OneWhole.{viable_blocked, whole_faults_told}
+use Rattle.granit_whole.proofs.Wholes.{whole_events, whole_streams, whole_faults, whole_never_unfinished, Starts}
+use Rattle.granit_whole.proofs.Wholes.{whole_viable}
+use Rattle.granit_event_machine.proofs.Guards.{NotFaulty}
+use Rattle.granit_whole.proofs.OneWhole.{viable_blocked, whole_faults_told}
 use Rattle.granit_agreement.proofs.WholeRuns.{run_agrees}
 
 abbrev Guards : OptionsData → List Terminal → EventAnswer

@@ -1,14 +1,14 @@
 -- What waits behind lexemes that are fed is a node directly behind a `-` or a `:`.
-use Rattle.granit_agreement.specs.Running.{FairRun}
-use Rattle.granit_agreement.specs.View.{item_of, waiting_of}
+use Rattle.granit_views.specs.Running.{FairRun}
+use Rattle.granit_views.specs.View.{item_of, waiting_of}
 use Rattle.granit_agreement.proofs.OpenRuns.{waiting_in, Leaves, fed_left}
 use Rattle.granit_language.specs.Awaiting.{PairWaits, WaitsIn, AwaitsNode}
 use Rattle.granit_language.specs.Seen.{Flagged, terminal_seen}
-use Rattle.granit_grammar.specs.EventMachine.{PairAt, Key, KeyDone, Asking, AskDone, Done, Value, EventState, IsFresh}
-use Rattle.granit_grammar.specs.EventMachine.{HasDirectives, IsRooted, InFrames, IsEnded, Ending, ending, ended_by}
-use Rattle.granit_grammar.specs.EventMachine.{EventStep, GoesTo, StopsWith, after_events, take_frames, FlowSite}
-use Rattle.granit_grammar.specs.EventMachine.{pair_frames}
-use Rattle.granit_grammar.specs.PlaceFrames.{site_in, hole_frames, pair_made, state_at}
+use Rattle.granit_event_machine.specs.EventMachine.{PairAt, Key, KeyDone, Asking, AskDone, Done, Value, EventState, IsFresh}
+use Rattle.granit_event_machine.specs.EventMachine.{HasDirectives, IsRooted, InFrames, IsEnded, Ending, ending, ended_by}
+use Rattle.granit_event_machine.specs.EventMachine.{EventStep, GoesTo, StopsWith, after_events, take_frames, FlowSite}
+use Rattle.granit_event_machine.specs.EventMachine.{pair_frames}
+use Rattle.granit_event_machine.specs.PlaceFrames.{site_in, hole_frames, pair_made, state_at}
 use Rattle.granit_grammar.specs.TreeMachine.{Short, parse, tree_start}
 use Rattle.granit_grammar.proofs.Leading.{leads_want}
 use Rattle.granit_language.specs.Node.{NoProperties, One, Two, Single, Paired, Left}
@@ -46,8 +46,8 @@ pair_calm n (FlowPairs p Curly i lead) r made (Value m) w v e = v
 pair_calm n (FlowPairs p Curly i lead) r made at w v e = cc (e)
 
 square_made :
-    (n : ℕ) (a : Bool) (fs : List Rattle.granit_grammar.specs.EventMachine.OpenFrame) (m : Mark) (w : Waiting) →
-    waiting_of n (pair_frames (Rattle.granit_grammar.specs.EventMachine.FlowSite Square fs) a (Value m)) ≡ Some w →
+    (n : ℕ) (a : Bool) (fs : List Rattle.granit_event_machine.specs.EventMachine.OpenFrame) (m : Mark) (w : Waiting) →
+    waiting_of n (pair_frames (Rattle.granit_event_machine.specs.EventMachine.FlowSite Square fs) a (Value m)) ≡ Some w →
     a ≡ true
 square_made n true fs m w e = refl
 square_made n false fs m w e = absurd cc
@@ -108,7 +108,7 @@ colon_held n (BlockPairs p c lead) r left m h = (record { at = m; room = n; held
 colon_held n (FlowPairs p Square i lead) r left m h = (
   record { at = m; room = n; held = [] },
   ap
-      (λ b. waiting_of n (pair_frames (Rattle.granit_grammar.specs.EventMachine.FlowSite Square (hole_frames r)) b
+      (λ b. waiting_of n (pair_frames (Rattle.granit_event_machine.specs.EventMachine.FlowSite Square (hole_frames r)) b
       (Value m)))
       h,
 )

@@ -1,14 +1,14 @@
 -- The parser's run over lexemes and that of the grammar's machine.
-use Rattle.granit_agreement.specs.Good.{Good, is_fresh}
-use Rattle.granit_agreement.specs.Running.{Knows, ParserSeen, ComesTo, NextView, FairNext, FairRun, RunView}
-use Rattle.granit_agreement.specs.Stepping.{taken, at_kind}
-use Rattle.granit_agreement.specs.View.{Beside, item_of, state_of, give_all}
+use Rattle.granit_views.specs.Good.{Good, is_fresh}
+use Rattle.granit_views.specs.Running.{Knows, ParserSeen, ComesTo, NextView, FairNext, FairRun, RunView}
+use Rattle.granit_views.specs.Stepping.{taken, at_kind}
+use Rattle.granit_views.specs.View.{Beside, item_of, state_of, give_all}
 use Rattle.granit_language.specs.Seen.{Flagged, terminal_of, terminal_seen}
-use Rattle.granit_grammar.specs.EventMachine.{EventState, IsFresh, HasDirectives, IsRooted, InFrames, IsEnded, Ending}
-use Rattle.granit_grammar.specs.EventMachine.{ending, ended_by, EventStep, GoesTo, StopsWith, after_events, take_frames}
-use Rattle.granit_grammar.specs.EventMachine.{EventAnswer, Events, Faulty, Unfinished, events_before}
-use Rattle.granit_grammar.specs.Guarded.{Guard, passed, goes_by, closed_by, guarded, first_fault, fault_unless}
-use Rattle.granit_grammar.specs.Guarded.{state_count, is_loose, whole_guard}
+use Rattle.granit_event_machine.specs.EventMachine.{EventState, IsFresh, HasDirectives, IsRooted, InFrames, IsEnded, Ending}
+use Rattle.granit_event_machine.specs.EventMachine.{ending, ended_by, EventStep, GoesTo, StopsWith, after_events, take_frames}
+use Rattle.granit_event_machine.specs.EventMachine.{EventAnswer, Events, Faulty, Unfinished, events_before}
+use Rattle.granit_event_machine.specs.Guarded.{Guard, passed, goes_by, closed_by, guarded, first_fault, fault_unless}
+use Rattle.granit_event_machine.specs.Guarded.{state_count, is_loose, whole_guard}
 use Rattle.granit_language.specs.GrammarFault.{GrammarFault, TooManyBlocks}
 use Rattle.granit_language.specs.Scope.{Scope, no_scope}
 use Rattle.granit_language.specs.Scoping.{next_scope, scoped}
@@ -31,9 +31,9 @@ use Rattle.granit_lexemes.specs.Outcome.{Fault, ◌>>=◌}
 use Rattle.granit_lexemes.specs.Pieces.{with_front}
 use Rattle.granit_lexemes.specs.PlainEvent.{PlainEvent}
 use Rattle.granit_lexemes.specs.Lexeme as lexemes
-use Rattle.granit_grammar.proofs.Guards.{before_before}
-use Rattle.granit_grammar.proofs.Limit.{from_zero}
-use Rattle.granit_agreement.proofs.WholeSteps.{step_next}
+use Rattle.granit_event_machine.proofs.Guards.{before_before}
+use Rattle.granit_event_machine.proofs.Limit.{from_zero}
+use Rattle.granit_frame_steps.proofs.WholeSteps.{step_next}
 
 -- ---- events
 

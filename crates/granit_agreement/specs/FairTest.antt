@@ -6,11 +6,11 @@ use Rattle.granit_language.specs.Scope.{Scope}
 use Rattle.granit_language.specs.Scoping.{next_scope}
 use Rattle.granit_language.specs.Terminal.{Terminal, is_dash_kind, closes_kind, stands_left, text_start}
 use Rattle.granit_lexemes.specs.declared.layout.Bracket.TheVariants.{Curly}
-use Rattle.granit_grammar.specs.EventMachine.{Key, KeyDone, Done, Value, OpenFrame, PropertiesFrame, MappingFrame}
-use Rattle.granit_grammar.specs.EventMachine.{FlowMappingFrame, EventState, InFrames, IsEnded, EventStep, GoesTo}
-use Rattle.granit_grammar.specs.EventMachine.{StopsWith, ended_by, frames_room, put_frames}
-use Rattle.granit_agreement.specs.Fair.{frames_in_flow, is_key_part, frame_ends_at, frames_below}
-use Rattle.granit_agreement.specs.Stepping.{taken}
+use Rattle.granit_event_machine.specs.EventMachine.{Key, KeyDone, Done, Value, OpenFrame, PropertiesFrame, MappingFrame}
+use Rattle.granit_event_machine.specs.EventMachine.{FlowMappingFrame, EventState, InFrames, IsEnded, EventStep, GoesTo}
+use Rattle.granit_event_machine.specs.EventMachine.{StopsWith, ended_by, frames_room, put_frames}
+use Rattle.granit_views.specs.Fair.{frames_in_flow, is_key_part, frame_ends_at, frames_below}
+use Rattle.granit_views.specs.Stepping.{taken}
 use Rattle.granit_language.specs.Seen.{Flagged, terminal_of}
 
 abbrev pub same_test : Bool → Bool → Bool

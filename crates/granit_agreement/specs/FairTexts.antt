@@ -5,7 +5,7 @@ use Rattle.granit_lexemes.specs.Here.{start_of}
 use Rattle.granit_lexemes.specs.Lexeme.{Item}
 use Rattle.granit_lexemes.specs.Outcome.{Fault}
 use Rattle.granit_language.specs.Scope.{no_scope}
-use Rattle.granit_grammar.specs.EventMachine.{IsFresh}
+use Rattle.granit_event_machine.specs.EventMachine.{IsFresh}
 use Rattle.granit_machine.specs.Lexing.{lex}
 use Rattle.granit_machine.specs.Reader.{LexState}
 use Rattle.granit_agreement.specs.FairTest.{fair_run}

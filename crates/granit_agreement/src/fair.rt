@@ -1,11 +1,11 @@
 //! Lists that the reader gives are fair to the parser.
 ghost use Rattle.std.specs.Prelude.{◌≡◌, List, [], ◌∷◌, codes, true};
 ghost use Rattle.granit_error.specs.OptionsData.{default_options};
-ghost use Rattle.granit_grammar.specs.EventMachine.{EventState};
+ghost use Rattle.granit_event_machine.specs.EventMachine.{EventState};
 ghost use Rattle.granit_language.specs.Scope.{Scope};
 ghost use Rattle.granit_agreement.specs.FairTest.{fair_run};
 ghost use Rattle.granit_agreement.specs.FairTexts.{all_fair};
-ghost use Rattle.granit_agreement.specs.Running.{FairRun};
+ghost use Rattle.granit_views.specs.Running.{FairRun};
 ghost use Rattle.granit_language.specs.Seen.{Flagged};
 
 /// A test decides whether a list is fair, and these texts pass it: block and flow collections, properties, documents,

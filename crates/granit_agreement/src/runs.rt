@@ -13,12 +13,12 @@ ghost use Rattle.granit_language.specs.Scoping.{scoped};
 ghost use Rattle.granit_language.specs.Terminal.{At, TheEnd, Terminal, terminal, text_start};
 ghost use Rattle.granit_language.specs.TreeEvents.{TreeEvent};
 ghost use Rattle.granit_language.specs.Whole.{WholeReading, WholeFault};
-ghost use Rattle.granit_grammar.specs.EventMachine.{IsFresh};
-ghost use Rattle.granit_grammar.specs.Guarded.{guarded, whole_guard};
+ghost use Rattle.granit_event_machine.specs.EventMachine.{IsFresh};
+ghost use Rattle.granit_event_machine.specs.Guarded.{guarded, whole_guard};
 ghost use Rattle.granit_machine.specs.Frames.{ParserState, Waiting, parser_start};
 ghost use Rattle.granit_machine.specs.Machine.{feed_all};
-ghost use Rattle.granit_agreement.specs.Running.{FairRun, GivesTold, ParsedAs, RunView};
-ghost use Rattle.granit_agreement.specs.View.{item_of};
+ghost use Rattle.granit_views.specs.Running.{FairRun, GivesTold, ParsedAs, RunView};
+ghost use Rattle.granit_views.specs.View.{item_of};
 ghost use Rattle.granit_language.specs.Seen.{Flagged, terminal_seen};
 
 /// Fed with lexemes that are fair to it, the parser gives the events of the grammar's machine, or the fault of the

@@ -3,13 +3,13 @@ ghost use Rattle.std.specs.Prelude.{◌≡◌, Bool, true, nat_le};
 ghost use Rattle.granit_error.specs.OptionsData.{OptionsData};
 ghost use Rattle.granit_lexemes.specs.Lexeme.{Lexeme};
 ghost use Rattle.granit_language.specs.Scope.{Scope};
-ghost use Rattle.granit_grammar.specs.EventMachine.{EventState};
-ghost use Rattle.granit_grammar.specs.Guarded.{state_count};
-ghost use Rattle.granit_agreement.specs.Closed.{Closed};
-ghost use Rattle.granit_agreement.specs.Fair.{Fair};
-ghost use Rattle.granit_agreement.specs.Good.{Good};
-ghost use Rattle.granit_agreement.specs.Running.{Knows, StepsAlike};
-ghost use Rattle.granit_agreement.specs.View.{Beside};
+ghost use Rattle.granit_event_machine.specs.EventMachine.{EventState};
+ghost use Rattle.granit_event_machine.specs.Guarded.{state_count};
+ghost use Rattle.granit_views.specs.Closed.{Closed};
+ghost use Rattle.granit_views.specs.Fair.{Fair};
+ghost use Rattle.granit_views.specs.Good.{Good};
+ghost use Rattle.granit_views.specs.Running.{Knows, StepsAlike};
+ghost use Rattle.granit_views.specs.View.{Beside};
 ghost use Rattle.granit_language.specs.Seen.{terminal_of};
 
 /// What the parser ends before a lexeme is a part of what the grammar's machine ends, event by event, and what is left

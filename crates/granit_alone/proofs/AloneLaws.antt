@@ -7,24 +7,24 @@ use Rattle.granit_alone.specs.Alone.{BeginsAlone, CausedAlone, ReadsAlone, strea
 use Rattle.granit_alone.specs.Behind.{GivesAlone, GivesEnd, IsOpen, TellsRest, TellsRestAlone}
 use Rattle.granit_answers.proofs.CommentsCaused.{any_fault_caused}
 use Rattle.granit_answers.proofs.OneCause.{answer_reads}
-use Rattle.granit_before.proofs.CauseSaid.{cause_declared}
-use Rattle.granit_before.proofs.ReadingSaid.{answer_declared}
-use Rattle.granit_before.specs.DeclaredCause.{DeclaredCause}
-use Rattle.granit_before.specs.DeclaredReading.{DeclaredReading}
+use Rattle.granit_declared.proofs.CauseSaid.{cause_declared}
+use Rattle.granit_declared.proofs.ReadingSaid.{answer_declared}
+use Rattle.granit_declared.specs.DeclaredCause.{DeclaredCause}
+use Rattle.granit_declared.specs.DeclaredReading.{DeclaredReading}
 use Rattle.granit_error.specs.OptionsData.{OptionsData}
 use Rattle.granit_lexemes.specs.Here.{Here, mark_of, start_of}
 use Rattle.granit_lexemes.specs.Outcome.{Fault}
 use Rattle.granit_lexemes.specs.PlainEvent as events
 use Rattle.granit_lexemes.specs.PlainEvent.{EventKind, event_on, PlainEvent}
 use Rattle.granit_machine.specs.Machine.{run}
-use Rattle.granit_reading.proofs.ParserSources.{run_none}
-use Rattle.granit_recovery.proofs.TidyLaws.{begun_ends}
+use Rattle.granit_read_answers.proofs.ParserSources.{run_none}
+use Rattle.granit_ids.proofs.TidyLaws.{begun_ends}
 use Rattle.granit_recovery.specs.Streams.{CallsGive}
 use Rattle.granit_restart.specs.Calls.{Calls, next_call}
-use Rattle.granit_shifted.specs.Alone.{behind_first, TellsMoved, TellsEnd}
+use Rattle.granit_led.specs.Alone.{behind_first, TellsMoved, TellsEnd}
 use Rattle.granit_shifted.specs.Shift.{Shift, moved_event, moved_events, moved_fault, moved_fault_of, moved_kind}
 use Rattle.granit_steps.proofs.StepLaws.{run_told, steps_tell}
-use Rattle.granit_steps.proofs.StreamLaws.{run_is_stream, told_begins}
+use Rattle.granit_streams.proofs.StreamLaws.{run_is_stream, told_begins}
 use Rattle.granit_steps.specs.Levels.{BeginsStream, IsStream, stream_levels}
 use Rattle.granit_steps.specs.Steps.{steps_start}
 use Rattle.granit_steps.specs.Told.{answer, GivesEvents, told_of}

@@ -8,14 +8,14 @@ use Rattle.granit_alone.proofs.CallSteps.{behind, fault_comes, front, none_comes
 use Rattle.granit_alone.proofs.CallSteps.{told_none}
 use Rattle.granit_alone.specs.Alone.{stream_start}
 use Rattle.granit_alone.specs.Behind.{CausedAnew, GivesAnew, IsOpen, TellsRest, told_anew}
-use Rattle.granit_before.specs.DeclaredReading.{DeclaredReading}
+use Rattle.granit_declared.specs.DeclaredReading.{DeclaredReading}
 use Rattle.granit_error.specs.OptionsData.{OptionsData}
 use Rattle.granit_lexemes.specs.Outcome.{Fault}
 use Rattle.granit_lexemes.specs.PlainEvent as events
 use Rattle.granit_lexemes.specs.PlainEvent.{EventKind, PlainEvent}
 use Rattle.granit_recovery.specs.Streams.{CallsGive}
 use Rattle.granit_restart.specs.Calls.{Calls, next_call}
-use Rattle.granit_shifted.specs.Declaring.{behind_documents, TellsAnew}
+use Rattle.granit_led.specs.Declaring.{behind_documents, TellsAnew}
 use Rattle.granit_shifted.specs.Shift.{moved_event, moved_events, moved_fault, moved_fault_of, moved_kind, Shift}
 use Rattle.granit_steps.specs.Levels.{IsStream}
 use Rattle.granit_steps.specs.Told.{told_of}

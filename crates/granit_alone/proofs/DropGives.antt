@@ -12,9 +12,9 @@ use Rattle.granit_recovery.specs.Streams.{CallsGive, ReachedByCalls}
 use Rattle.granit_restart.specs.Calls.{Calls, GivenByCall, next_call}
 use Rattle.granit_restart.specs.Recovery.{looked_by, recover, skipped_by, starts_by}
 use Rattle.granit_restart.specs.Skipping.{Failed, skip_by_turns, skipped_fault, skipped_to, Stops}
-use Rattle.granit_shifted.proofs.LedLaws.{next_led, skip_led, SkipLed}
-use Rattle.granit_shifted.specs.Led.{Led}
-use Rattle.granit_shifted.specs.Stopping.{FaultFits, looked_at}
+use Rattle.granit_led.proofs.LedLaws.{next_led, skip_led, SkipLed}
+use Rattle.granit_led.specs.Led.{Led}
+use Rattle.granit_led.specs.Stopping.{FaultFits, looked_at}
 use Rattle.granit_steps.specs.Steps.{StepState}
 
 -- ---- what was looked at

@@ -7,7 +7,7 @@ use Rattle.std.proofs.lemmas.Bool.{or_from, le-ltb}
 use Rattle.std.specs.Prelude.{if◌then◌else◌, nat_lt}
 use Rattle.granit_base.specs.Classes.{is_blank, is_break}
 use Rattle.granit_base.specs.Place.{ends_line, first}
-use Rattle.granit_before.proofs.OneLine.{tail_line}
+use Rattle.granit_declared.proofs.OneLine.{tail_line}
 use Rattle.granit_error.specs.OptionsData.{OptionsData}
 use Rattle.granit_language.specs.Before.{freshened, in_front}
 use Rattle.granit_language.specs.Begins.{Begins, dots}
@@ -34,19 +34,19 @@ use Rattle.granit_machine.specs.Reader.{LexState, read}
 use Rattle.granit_machine.specs.ReaderState.{ReaderState}
 use Rattle.granit_reading.proofs.Answering.{Answers}
 use Rattle.granit_reading.proofs.ReadingLaw.{read-is, ReadsBy}
-use Rattle.granit_reading.proofs.Telling.{SaysOf, telling}
+use Rattle.granit_places.proofs.Telling.{SaysOf, telling}
 use Rattle.granit_restart.proofs.MarkLaws.{items, MarksSettled}
 use Rattle.granit_restart.proofs.MarkReads.{is_mark}
 use Rattle.granit_restart.specs.Boundary.{AtStart, AtTextEnd, Boundary, next_boundary, PastEnd}
 use Rattle.granit_restart.specs.NextBoundary.{IsLineEnd}
 use Rattle.granit_restart.specs.Restart.{at_boundary, at_found, at_lexeme, behind_fault, behind_fault_at, cursor_at}
 use Rattle.granit_restart.specs.Restart.{is_boundary, read_boundary}
-use Rattle.granit_shifted.proofs.FoundLaws.{led_holds}
-use Rattle.granit_shifted.proofs.FoundMarks.{cursor_waiting}
-use Rattle.granit_shifted.proofs.MarkWaits as waiting
-use Rattle.granit_shifted.proofs.MarkWaits.{any_of, none_in, none_waits, one_in, OneIn, WaitsLast}
-use Rattle.granit_shifted.proofs.StartsRead.{or_false}
-use Rattle.granit_shifted.specs.Led.{Led, led_anew, led_keeping, led_on, led_start, led_with}
+use Rattle.granit_behind.proofs.FoundLaws.{led_holds}
+use Rattle.granit_led.proofs.FoundMarks.{cursor_waiting}
+use Rattle.granit_led.proofs.MarkWaits as waiting
+use Rattle.granit_led.proofs.MarkWaits.{any_of, none_in, none_waits, one_in, OneIn, WaitsLast}
+use Rattle.granit_led.proofs.StartsRead.{or_false}
+use Rattle.granit_led.specs.Led.{Led, led_anew, led_keeping, led_on, led_start, led_with}
 use Rattle.granit_steps.specs.Steps.{is_open_comment, step_turn, StepState, Turn}
 
 abbrev pub is_end : LexemeKind → Bool

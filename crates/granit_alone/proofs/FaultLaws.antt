@@ -31,13 +31,13 @@ use Rattle.granit_restart.specs.Recovery.{resumed, skipped, skipped_by}
 use Rattle.granit_restart.specs.Restart.{at_boundary, at_found, at_lexeme, behind_fault, behind_fault_at, cursor_at}
 use Rattle.granit_restart.specs.Restart.{read_boundary}
 use Rattle.granit_restart.specs.Skipping.{Ended, Failed, restarted, skip_by_turns, SkipEnd, skipped_fault, Stops}
-use Rattle.granit_shifted.proofs.FoundTells.{found_boundary, found_tells}
-use Rattle.granit_shifted.proofs.LedLaws.{next_led, recover_led, skip_led, SkipLed}
-use Rattle.granit_shifted.specs.Alone.{alone_told, anew_told, shift_from, shift_to, TellsBehind, TellsItsText}
-use Rattle.granit_shifted.specs.Alone.{TellsLeft}
-use Rattle.granit_shifted.specs.Led.{Led, led_anew, led_keeping, led_on, led_start, led_with, TellsFound, TellsMark}
+use Rattle.granit_behind.proofs.FoundTells.{found_boundary, found_tells}
+use Rattle.granit_led.proofs.LedLaws.{next_led, recover_led, skip_led, SkipLed}
+use Rattle.granit_led.specs.Alone.{alone_told, anew_told, shift_from, shift_to, TellsBehind, TellsItsText}
+use Rattle.granit_led.specs.Alone.{TellsLeft}
+use Rattle.granit_led.specs.Led.{Led, led_anew, led_keeping, led_on, led_start, led_with, TellsFound, TellsMark}
 use Rattle.granit_shifted.specs.Shift.{moved_events, moved_fault_of}
-use Rattle.granit_shifted.specs.Stopping.{EndFits, FaultFits}
+use Rattle.granit_led.specs.Stopping.{EndFits, FaultFits}
 use Rattle.granit_steps.specs.Steps.{next_event, StepState}
 
 -- ---- where calls and recoveries lead

@@ -17,7 +17,7 @@ use Rattle.granit_machine.specs.Lexing.{FlaggedItem}
 use Rattle.granit_machine.specs.Parser.{feed}
 use Rattle.granit_machine.specs.Reader.{behind_read, lex_turn, read}
 use Rattle.granit_machine.specs.ReaderState.{Read}
-use Rattle.granit_recovery.specs.BoundaryPlace.{boundary_place}
+use Rattle.granit_calls.specs.BoundaryPlace.{boundary_place}
 use Rattle.granit_recovery.specs.Streams.{EarlyOf, not_early, turn_early}
 use Rattle.granit_restart.proofs.AheadLaws.{one, OneTurn}
 use Rattle.granit_restart.proofs.BoundaryLaws.{finds_next}
@@ -29,10 +29,10 @@ use Rattle.granit_restart.specs.Recovery.{recover}
 use Rattle.granit_restart.specs.Restart.{at_boundary, at_found, at_lexeme, behind_fault, behind_fault_at, cursor_at}
 use Rattle.granit_restart.specs.Restart.{read_boundary}
 use Rattle.granit_restart.specs.Skipping.{Ended, Failed, skip_by_turns, SkipEnd, Stops, with_pending}
-use Rattle.granit_shifted.proofs.BoundaryTells.{dropped_counted, IsCounted, mark_counted, step_counted, steps_counted}
-use Rattle.granit_shifted.proofs.BoundaryTells as places
-use Rattle.granit_shifted.proofs.KeptLaws.{next_kept, recover_kept, skip_kept, SkipKept}
-use Rattle.granit_shifted.specs.Stopping.{DropFits, EndFits, FaultFits, FitBehind, looked_at, StopsFit}
+use Rattle.granit_behind.proofs.BoundaryTells.{dropped_counted, IsCounted, mark_counted, step_counted, steps_counted}
+use Rattle.granit_behind.proofs.BoundaryTells as places
+use Rattle.granit_led.proofs.KeptLaws.{next_kept, recover_kept, skip_kept, SkipKept}
+use Rattle.granit_led.specs.Stopping.{DropFits, EndFits, FaultFits, FitBehind, looked_at, StopsFit}
 use Rattle.granit_steps.specs.Steps.{front_turn, line_behind, may_go, read_more, read_unless, step_turn, StepState}
 use Rattle.granit_steps.specs.Steps.{Turn}
 use Rattle.granit_steps.specs.Steps.{turn_by, with_fed, with_read}

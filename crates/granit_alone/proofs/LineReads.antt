@@ -33,7 +33,7 @@ use Rattle.granit_machine.specs.Reader.{read}
 use Rattle.granit_machine.specs.ReaderState.{ReaderState}
 use Rattle.granit_reading.proofs.Answering.{Answers}
 use Rattle.granit_reading.proofs.ReadingLaw.{read-is, ReadsBy}
-use Rattle.granit_shifted.proofs.BoundaryTells.{IsCounted, mark_counted, step_counted, stepped, steps_counted}
+use Rattle.granit_behind.proofs.BoundaryTells.{IsCounted, mark_counted, step_counted, stepped, steps_counted}
 
 over_counted : (cs : List ℕ) (h : Here) → IsCounted h → IsCounted (over cs h)
 over_counted [] h q = q

@@ -7,8 +7,8 @@ use Rattle.granit_alone.proofs.CallSteps.{behind, fault_comes, front, none_comes
 use Rattle.granit_alone.proofs.FaultLaws.{ask_goes, GoesFrom}
 use Rattle.granit_alone.proofs.SkipTold.{end_of, skip_told}
 use Rattle.granit_alone.specs.Behind.{GivesText, IsOpen, TellsRest}
-use Rattle.granit_before.specs.DeclaredCause.{DeclaredCause}
-use Rattle.granit_before.specs.DeclaredReading.{DeclaredReading}
+use Rattle.granit_declared.specs.DeclaredCause.{DeclaredCause}
+use Rattle.granit_declared.specs.DeclaredReading.{DeclaredReading}
 use Rattle.granit_error.specs.OptionsData.{OptionsData}
 use Rattle.granit_lexemes.specs.Outcome.{Fault}
 use Rattle.granit_lexemes.specs.PlainEvent.{PlainEvent}
@@ -17,7 +17,7 @@ use Rattle.granit_recovery.specs.Streams.{CallsGive}
 use Rattle.granit_restart.specs.Calls.{Calls, next_call}
 use Rattle.granit_restart.specs.Recovery.{extra_of, looked_by, recover, recover_with, skipped_by}
 use Rattle.granit_restart.specs.Skipping.{Ended, skip_by_turns, skipped_to, Stops}
-use Rattle.granit_shifted.specs.Stopping.{looked_at}
+use Rattle.granit_led.specs.Stopping.{looked_at}
 use Rattle.granit_steps.specs.Levels.{IsStream}
 use Rattle.granit_steps.specs.Steps.{StepState}
 use Rattle.granit_steps.specs.Told.{told_of}

@@ -11,7 +11,7 @@ use Rattle.granit_restart.proofs.AheadLaws.{turn_next, waits_next}
 use Rattle.granit_restart.specs.Skipping.{Ahead, ahead, ahead_by, AtStreamEnd, BehindDocument, Ended, ends_before}
 use Rattle.granit_restart.specs.Skipping.{Failed}
 use Rattle.granit_restart.specs.Skipping.{NoEnd, skip_by_turns, skip_ahead, SkipEnd, skip_in, skip_turn, with_pending}
-use Rattle.granit_shifted.proofs.AloneStates.{gives_from}
+use Rattle.granit_behind.proofs.AloneStates.{gives_from}
 use Rattle.granit_steps.specs.Steps.{step_size, step_turn, StepState, Turn}
 use Rattle.granit_steps.specs.Told.{gives_end, gives_event, gives_fault, GivesEvents}
 

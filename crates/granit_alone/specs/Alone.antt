@@ -1,7 +1,7 @@
 -- What is given behind a boundary, by what the text that is left there tells alone.
 use Rattle.std.specs.Prelude.{◌≡◌, ℕ, List, [], ◌∷◌}
-use Rattle.granit_before.specs.DeclaredCause.{DeclaredCause}
-use Rattle.granit_before.specs.DeclaredReading.{DeclaredReading}
+use Rattle.granit_declared.specs.DeclaredCause.{DeclaredCause}
+use Rattle.granit_declared.specs.DeclaredReading.{DeclaredReading}
 use Rattle.granit_error.specs.OptionsData.{OptionsData}
 use Rattle.granit_lexemes.specs.Here.{mark_of, start_of}
 use Rattle.granit_lexemes.specs.Outcome.{Fault}

@@ -2,8 +2,8 @@
 -- from before, as it is behind a text that declares them anew.
 use Rattle.std.specs.Prelude.{◌≡◌, ℕ, suc, false, List, [], ◌∷◌, ◌++◌, Option, Some, None, Err}
 use Rattle.granit_alone.specs.Alone.{BeginsAlone, CausedAlone, ReadsAlone, stream_start}
-use Rattle.granit_before.specs.DeclaredCause.{DeclaredCause}
-use Rattle.granit_before.specs.DeclaredReading.{DeclaredReading}
+use Rattle.granit_declared.specs.DeclaredCause.{DeclaredCause}
+use Rattle.granit_declared.specs.DeclaredReading.{DeclaredReading}
 use Rattle.granit_error.specs.OptionsData.{OptionsData}
 use Rattle.granit_lexemes.specs.Here.{Here, mark_of}
 use Rattle.granit_lexemes.specs.Lexeme.{DocumentEnd, DocumentStart, Lexeme, StreamEnd}
@@ -16,9 +16,9 @@ use Rattle.granit_restart.specs.Calls.{Calls, next_call}
 use Rattle.granit_restart.specs.NextBoundary.{IsLineEnd}
 use Rattle.granit_restart.specs.Restart.{behind_fault, cursor_at, read_boundary}
 use Rattle.granit_restart.specs.Skipping.{Ended, Failed, skip_by_turns, Stops}
-use Rattle.granit_shifted.specs.Alone.{behind_first, HandlesStay, NoneStays, shift_from, shift_to, TellsBehind}
-use Rattle.granit_shifted.specs.Declaring.{behind_documents, DeclaresAnew, EmptyDocuments}
-use Rattle.granit_shifted.specs.Found.{StartRead}
+use Rattle.granit_led.specs.Alone.{behind_first, HandlesStay, NoneStays, shift_from, shift_to, TellsBehind}
+use Rattle.granit_led.specs.Declaring.{behind_documents, DeclaresAnew, EmptyDocuments}
+use Rattle.granit_led.specs.Found.{StartRead}
 use Rattle.granit_shifted.specs.Shift.{moved_events, moved_fault, moved_fault_of, Shift}
 use Rattle.granit_steps.specs.Levels.{BeginsStream, IsStream}
 use Rattle.granit_steps.specs.Steps.{StepState}

@@ -9,11 +9,11 @@ ghost use Rattle.granit_recovery.specs.Streams.{CallsGive, ReachedByCalls};
 ghost use Rattle.granit_restart.specs.Calls.{Calls};
 ghost use Rattle.granit_restart.specs.Recovery.{recover};
 ghost use Rattle.granit_restart.specs.Skipping.{Failed, skip_by_turns, Stops};
-ghost use Rattle.granit_shifted.specs.Alone.{TellsMoved};
-ghost use Rattle.granit_shifted.specs.Declaring.{TellsAnew};
-ghost use Rattle.granit_shifted.specs.Led.{Led};
+ghost use Rattle.granit_led.specs.Alone.{TellsMoved};
+ghost use Rattle.granit_led.specs.Declaring.{TellsAnew};
+ghost use Rattle.granit_led.specs.Led.{Led};
 ghost use Rattle.granit_shifted.specs.Shift.{moved_events, moved_fault_of, Shift};
-ghost use Rattle.granit_shifted.specs.Stopping.{FaultFits, looked_at};
+ghost use Rattle.granit_led.specs.Stopping.{FaultFits, looked_at};
 ghost use Rattle.granit_steps.specs.Steps.{StepState};
 
 /// Turns and restarts lead wherever calls and recoveries do.

@@ -6,7 +6,7 @@ ghost use Rattle.granit_recovery.specs.Streams.{EarlyOf};
 ghost use Rattle.granit_restart.specs.Calls.{Calls, next_call};
 ghost use Rattle.granit_restart.specs.Recovery.{recover};
 ghost use Rattle.granit_restart.specs.Skipping.{Stops};
-ghost use Rattle.granit_shifted.specs.Stopping.{FaultFits, FitBehind, looked_at};
+ghost use Rattle.granit_led.specs.Stopping.{FaultFits, FitBehind, looked_at};
 ghost use Rattle.granit_steps.specs.Steps.{StepState};
 
 /// Where they count so, they do behind each call, each turn that is made early, and each recovery for which refused

@@ -8,7 +8,7 @@ ghost use Rattle.granit_recovery.specs.Streams.{CallsGive};
 ghost use Rattle.granit_restart.specs.Calls.{Calls};
 ghost use Rattle.granit_restart.specs.Recovery.{recover};
 ghost use Rattle.granit_restart.specs.Skipping.{Ended, skip_by_turns, Stops};
-ghost use Rattle.granit_shifted.specs.Stopping.{looked_at};
+ghost use Rattle.granit_led.specs.Stopping.{looked_at};
 ghost use Rattle.granit_steps.specs.Steps.{StepState};
 ghost use Rattle.granit_steps.specs.Told.{told_of};
 

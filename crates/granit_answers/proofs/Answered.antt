@@ -2,11 +2,11 @@
 use Rattle.std.proofs.Common.{◌≡◌, ℕ, Bool, true, false, List, [], ◌∷◌, ◌++◌, map, Option, Some, None, Result, Ok, Err}
 use Rattle.std.proofs.Common.{refl, sym, ap, ap₂, ◌∙◌, subst}
 use Rattle.granit_error.specs.OptionsData.{OptionsData}
-use Rattle.granit_agreement.specs.Running.{FairRun, GivesTold}
-use Rattle.granit_agreement.specs.View.{item_of}
+use Rattle.granit_views.specs.Running.{FairRun, GivesTold}
+use Rattle.granit_views.specs.View.{item_of}
 use Rattle.granit_language.specs.Seen.{Flagged, terminal_seen, terminal_of, lexemes_flagged, read_lexemes, terminals_of}
 use Rattle.granit_agreement.proofs.Parsed.{parsed_events, readings_parsed}
-use Rattle.granit_grammar.specs.EventMachine.{IsFresh}
+use Rattle.granit_event_machine.specs.EventMachine.{IsFresh}
 use Rattle.granit_language.specs.Reached.{EndsBy, Reached}
 use Rattle.granit_language.specs.Scope.{Scope, no_scope}
 use Rattle.granit_language.specs.Scoping.{next_scope}
@@ -28,11 +28,11 @@ use Rattle.granit_machine.specs.Machine.{asked_items, feed_all, is_settled, fron
 use Rattle.granit_machine.specs.Reader.{LexState, is_end}
 use Rattle.granit_machine.specs.ReaderState.{reader_start}
 use Rattle.granit_reading.proofs.ReadingLaw.{lexed, lex_answers}
-use Rattle.granit_invariants.proofs.CommentLaws.{Lexed, answer_to}
-use Rattle.granit_answers.specs.Order.{EndsThere, OrderedFrom, open_behind, due_behind, may_follow}
-use Rattle.granit_answers.proofs.OrderSteps.{ordered_fair, make_order}
-use Rattle.granit_answers.proofs.BracketsKept.{brackets_kept}
-use Rattle.granit_answers.proofs.KeysKept.{keys_kept}
+use Rattle.granit_quiet.proofs.CommentLaws.{Lexed, answer_to}
+use Rattle.granit_order.specs.Order.{EndsThere, OrderedFrom, open_behind, due_behind, may_follow}
+use Rattle.granit_order.proofs.OrderSteps.{ordered_fair, make_order}
+use Rattle.granit_order.proofs.BracketsKept.{brackets_kept}
+use Rattle.granit_order.proofs.KeysKept.{keys_kept}
 
 -- ---- the items that the parser is fed with
 

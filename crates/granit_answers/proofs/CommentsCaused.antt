@@ -3,9 +3,9 @@ use Rattle.std.proofs.Common.{◌≡◌, ℕ, Bool, true, false, List, Option, S
 use Rattle.std.proofs.Common.{sym, ap, ◌∙◌}
 use Rattle.std.specs.Prelude.{is_none}
 use Rattle.granit_error.specs.OptionsData.{OptionsData}
-use Rattle.granit_invariants.specs.RefusedRows.{NoRow, FirstRow}
-use Rattle.granit_invariants.proofs.CommentLaws.{items_given}
-use Rattle.granit_invariants.proofs.RowsFirst.{first_refused, none_given, row_refuses}
+use Rattle.granit_comment_room.specs.RefusedRows.{NoRow, FirstRow}
+use Rattle.granit_quiet.proofs.CommentLaws.{items_given}
+use Rattle.granit_comment_room.proofs.RowsFirst.{first_refused, none_given, row_refuses}
 use Rattle.granit_language.specs.TextFault.{OfComments, WholeCause}
 use Rattle.granit_lexemes.specs.Here.{start_of}
 use Rattle.granit_lexemes.specs.Lexeme.{Item}

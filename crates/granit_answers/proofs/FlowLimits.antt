@@ -22,12 +22,12 @@ use Rattle.granit_machine.specs.LexemeSort.{Placed}
 use Rattle.granit_machine.specs.NodeLexemes.{note_items}
 use Rattle.granit_machine.specs.PossibleKeys.{top_key}
 use Rattle.granit_machine.specs.ReaderState.{ReaderState, reader_start}
-use Rattle.granit_reading.proofs.Moving.{lexeme_moved}
-use Rattle.granit_reading.proofs.Telling.{SaysOf, gap_agrees, telling}
+use Rattle.granit_places.proofs.Moving.{lexeme_moved}
+use Rattle.granit_places.proofs.Telling.{SaysOf, gap_agrees, telling}
 use Rattle.granit_answers.specs.FlowLimit.{brackets_behind, OpensInside, NestWithin, KeyOnLine, KeysOnLines}
-use Rattle.granit_answers.specs.Order.{open_behind}
-use Rattle.granit_answers.proofs.BracketsKept.{fresh_kinds, closed_same}
-use Rattle.granit_answers.proofs.BracketsPassed.{kinds_in, keyed_kinds, term_of, passed}
+use Rattle.granit_order.specs.Order.{open_behind}
+use Rattle.granit_order.proofs.BracketsKept.{fresh_kinds, closed_same}
+use Rattle.granit_order.proofs.BracketsPassed.{kinds_in, keyed_kinds, term_of, passed}
 
 length_kinds : (bs : List OpenBracket) → length (kinds_in bs) ≡ length bs
 length_kinds [] = refl

@@ -1,16 +1,5 @@
 pub mod Answered
-pub mod BracketsKept
-pub mod BracketsPassed
 pub mod Caused
-pub mod ColumnCloses
-pub mod ColumnLists
-pub mod ColumnSteps
-pub mod Enclosing
-pub mod FramesLaw
-pub mod FramesRun
-pub mod KeysKept
-pub mod KeysMoved
-pub mod OrderSteps
 pub mod CommentsCaused
 pub mod RowsTold
 pub mod Asked

@@ -3,12 +3,12 @@ use Rattle.std.proofs.Common.{◌≡◌, ℕ, Bool, true, false, not, List, [], 
 use Rattle.std.proofs.Common.{◌∙◌, subst, append_assoc}
 use Rattle.std.proofs.lemmas.List.{append-nil}
 use Rattle.granit_error.specs.OptionsData.{OptionsData}
-use Rattle.granit_agreement.specs.Running.{FairRun}
-use Rattle.granit_agreement.specs.View.{item_of}
+use Rattle.granit_views.specs.Running.{FairRun}
+use Rattle.granit_views.specs.View.{item_of}
 use Rattle.granit_agreement.proofs.Parsed.{parsed_viable, viable_parsed}
 use Rattle.granit_agreement.proofs.Waitings.{waits_awaits, awaits_waits}
-use Rattle.granit_grammar.specs.EventMachine.{IsFresh}
-use Rattle.granit_invariants.specs.RefusedRows.{RefusesRow, NoRow, FirstRow}
+use Rattle.granit_event_machine.specs.EventMachine.{IsFresh}
+use Rattle.granit_comment_room.specs.RefusedRows.{RefusesRow, NoRow, FirstRow}
 use Rattle.granit_language.specs.CommentRows.{RowTooLong, up_to}
 use Rattle.granit_language.specs.Scope.{no_scope}
 use Rattle.granit_language.specs.Seen.{Flagged, lexemes_flagged}
@@ -23,16 +23,16 @@ use Rattle.granit_machine.specs.Lexing.{FlaggedItem, flagged, lex}
 use Rattle.granit_machine.specs.Machine.{feed_all, settled, front_if}
 use Rattle.granit_machine.specs.PossibleKeys.{is_possible}
 use Rattle.granit_machine.specs.Reader.{LexState}
-use Rattle.granit_answers.specs.Order.{OrderedFrom}
+use Rattle.granit_order.specs.Order.{OrderedFrom}
 use Rattle.granit_answers.proofs.Answered.{asked_are, in_order}
-use Rattle.granit_answers.proofs.OrderSteps.{ordered_fair}
+use Rattle.granit_order.proofs.OrderSteps.{ordered_fair}
 use Rattle.std.proofs.Common.{Option}
 use Rattle.granit_language.specs.Scope.{Scope}
 use Rattle.granit_language.specs.Scoping.{next_scope}
 use Rattle.granit_language.specs.Seen.{terminal_of}
 use Rattle.granit_language.specs.Terminal.{TerminalKind, TheEnd}
 use Rattle.granit_lexemes.specs.declared.layout.Bracket.{Bracket}
-use Rattle.granit_answers.specs.Order.{open_behind, due_behind, may_follow, EndsThere}
+use Rattle.granit_order.specs.Order.{open_behind, due_behind, may_follow, EndsThere}
 
 pub lexemes_joined : (a b : List FlaggedItem) → lexemes_flagged (a ++ b) ≡ lexemes_flagged a ++ lexemes_flagged b
 lexemes_joined [] b = refl

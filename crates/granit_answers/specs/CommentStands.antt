@@ -2,9 +2,9 @@
 use Rattle.std.specs.Prelude.{◌≡◌, List, [], ◌∷◌, ◌++◌, map}
 use Rattle.granit_base.specs.Place.{Mark}
 use Rattle.granit_error.specs.OptionsData.{OptionsData}
-use Rattle.granit_invariants.specs.CommentEvents.{comment_events, only_comments}
-use Rattle.granit_invariants.specs.CommentPlaces.{SequenceStarted}
-use Rattle.granit_invariants.specs.Quiet.{but_comments}
+use Rattle.granit_quiet.specs.CommentEvents.{comment_events, only_comments}
+use Rattle.granit_comment_places.specs.CommentPlaces.{SequenceStarted}
+use Rattle.granit_quiet.specs.Quiet.{but_comments}
 use Rattle.granit_language.specs.Awaiting.{WaitsIn}
 use Rattle.granit_language.specs.Node.{NoProperties}
 use Rattle.granit_language.specs.OpenPlace.{Hole, OpenPlace, Want}

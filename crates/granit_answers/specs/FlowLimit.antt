@@ -9,7 +9,7 @@ use Rattle.granit_language.specs.Terminal.{TerminalKind, Part}
 use Rattle.granit_lexemes.specs.Lexeme.{LexemeKind, Colon, KeyStart, Lexeme, Item, OfLexeme, OfComment}
 use Rattle.granit_lexemes.specs.declared.layout.Bracket.{Bracket}
 use Rattle.granit_lexemes.specs.declared.layout.Bracket.TheVariants.{Square}
-use Rattle.granit_answers.specs.Order.{open_behind}
+use Rattle.granit_order.specs.Order.{open_behind}
 
 -- the open brackets behind items, the innermost first
 abbrev pub brackets_behind : List Item → List Bracket → List Bracket

@@ -1,7 +1,7 @@
 //! What the machine of the whole language answers.
 ghost use Rattle.std.specs.Prelude.{◌≡◌, ℕ, false, true, ◌⊎◌, List, None, Some, Ok, Err, []};
 ghost use Rattle.granit_error.specs.OptionsData.{OptionsData};
-ghost use Rattle.granit_invariants.specs.Quiet.{but_comments};
+ghost use Rattle.granit_quiet.specs.Quiet.{but_comments};
 ghost use Rattle.granit_language.specs.TextFault.{NoneTold, OfComments, OfLexemes, OfReading, WholeCause};
 ghost use Rattle.granit_language.specs.Telling.{events_told};
 ghost use Rattle.granit_language.specs.TreeEvents.{TreeEvent};
@@ -13,7 +13,7 @@ ghost use Rattle.granit_lexemes.specs.PlainEvent.{PlainEvent};
 ghost use Rattle.granit_machine.specs.Lexing.{lex};
 ghost use Rattle.granit_machine.specs.Machine.{run};
 ghost use Rattle.granit_machine.specs.Reader.{LexState};
-ghost use Rattle.granit_answers.specs.Answers.{AnswersReading};
+ghost use Rattle.granit_order.specs.Answers.{AnswersReading};
 ghost use Rattle.granit_language.specs.Seen.{terminals_of};
 
 /// What is answered is, comments aside, the one reading of the text's lexemes, and a reading of lexemes that are read

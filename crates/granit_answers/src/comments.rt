@@ -2,8 +2,8 @@
 ghost use Rattle.std.specs.Prelude.{◌≡◌, ◌∷◌, ◌++◌, ℕ, Bool, List, [], Ok, Some, true};
 ghost use Rattle.granit_answers.specs.CommentStands.{CommentStands};
 ghost use Rattle.granit_error.specs.OptionsData.{OptionsData};
-ghost use Rattle.granit_invariants.specs.CommentEvents.{comment_event};
-ghost use Rattle.granit_invariants.specs.CommentPlaces.{tail_event};
+ghost use Rattle.granit_quiet.specs.CommentEvents.{comment_event};
+ghost use Rattle.granit_comment_places.specs.CommentPlaces.{tail_event};
 ghost use Rattle.granit_lexemes.specs.Comment.{CommentRead};
 ghost use Rattle.granit_lexemes.specs.Here.{start_of};
 ghost use Rattle.granit_lexemes.specs.Lexeme.{Dash, Item, Lexeme, OfComment, OfLexeme};

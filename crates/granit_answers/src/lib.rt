@@ -3,19 +3,9 @@
 #![tactic(auto)]
 
 mod answers;
-mod columns;
 mod comments;
-mod order;
+mod limits;
 
-pub use answers::{
-    a_text_has_one_cause, every_answer_is_the_reading_of_its_text, every_cause_is_answered,
-    every_fault_has_its_cause, every_text_has_a_reading_or_a_cause,
-};
-pub use columns::{open_columns_are_frames, texts_have_their_columns_as_frames};
+pub use answers::{a_text_has_one_cause, every_answer_is_the_reading_of_its_text, every_cause_is_answered, every_fault_has_its_cause, every_text_has_a_reading_or_a_cause};
 pub use comments::every_comment_of_a_text_stands_in_its_place;
-pub use order::{
-    a_comment_cuts_short_the_scalar_before_it, brackets_and_keys_make_an_order,
-    brackets_nest_within_the_limit, byte_order_marks_may_stand_before_documents,
-    lexemes_in_flow_keep_to_lines_and_columns, lists_in_order_are_fair,
-    the_brackets_of_a_text_are_in_order, the_keys_of_a_text_are_in_order,
-};
+pub use limits::{a_comment_cuts_short_the_scalar_before_it, brackets_nest_within_the_limit, byte_order_marks_may_stand_before_documents, lexemes_in_flow_keep_to_lines_and_columns};

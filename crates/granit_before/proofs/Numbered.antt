@@ -17,9 +17,9 @@ use Rattle.granit_machine.specs.LexemeSort.{StrayMark, NoSign, LexemeSort, TextE
 use Rattle.granit_machine.specs.LexemeSort.{Unprintable, Placed}
 use Rattle.granit_machine.specs.NodeLexemes.{note_items}
 use Rattle.granit_machine.specs.ReaderState.{ReaderState, reader_start}
-use Rattle.granit_reading.proofs.ColumnsWhole.{latest_noted}
-use Rattle.granit_reading.proofs.Moving.{closed_held, lexeme_moved}
-use Rattle.granit_reading.proofs.Telling.{SaysOf, gap_agrees, telling}
+use Rattle.granit_places.proofs.ColumnsWhole.{latest_noted}
+use Rattle.granit_places.proofs.Moving.{closed_held, lexeme_moved}
+use Rattle.granit_places.proofs.Telling.{SaysOf, gap_agrees, telling}
 use Rattle.granit_before.specs.HeldKeys.{EndsIn, all_of_it, behind_one}
 use Rattle.granit_before.specs.KeyBegins.{AllNumbered}
 

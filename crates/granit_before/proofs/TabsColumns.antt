@@ -6,7 +6,7 @@ use Rattle.std.specs.Bool.{Decides}
 use Rattle.std.specs.Prelude.{if◌then◌else◌, nat_lt, drop}
 use Rattle.std.proofs.lemmas.Bool.Decides.{nat_tests}
 use Rattle.granit_base.specs.Place.{Mark, first}
-use Rattle.granit_reading.proofs.ColumnsLaw.{is_below}
+use Rattle.granit_places.proofs.ColumnsLaw.{is_below}
 use Rattle.granit_language.specs.Before.{in_front, behind_colon, behind_question_sign}
 use Rattle.granit_language.specs.OpenColumns.{EntryOf, IsEntry, Has, AtMost}
 use Rattle.granit_lexemes.specs.Here.{Here, mark_of}
@@ -22,10 +22,10 @@ use Rattle.granit_machine.specs.LexemeSort.{ColonSign, AliasSign, AnchorSign, Ta
 use Rattle.granit_machine.specs.LexemeSort.{StrayMark, NoSign, LexemeSort, TextEnd, StartMark, EndMark, DirectiveSign}
 use Rattle.granit_machine.specs.LexemeSort.{Unprintable, Placed}
 use Rattle.granit_machine.specs.PossibleKeys.{key_in, top_key}
-use Rattle.granit_reading.proofs.ColumnsKept.{KeySays, OpenSays}
-use Rattle.granit_reading.proofs.ColumnsLaw.{front_flow, cols}
-use Rattle.granit_reading.proofs.Moving.{left_open}
-use Rattle.granit_reading.proofs.Telling.{SaysOf}
+use Rattle.granit_places.proofs.ColumnsKept.{KeySays, OpenSays}
+use Rattle.granit_places.proofs.ColumnsLaw.{front_flow, cols}
+use Rattle.granit_places.proofs.Moving.{left_open}
+use Rattle.granit_places.proofs.Telling.{SaysOf}
 use Rattle.granit_before.proofs.TabsInnermost.{asks_kind, no_asks, no_colon}
 use Rattle.granit_before.proofs.TabsLeft.{left_of, Styled, flow_tabs, placed_columns, outer_columns}
 use Rattle.granit_before.specs.Tabs.{ends_sign, AsksFurther, IsWideColumn}

@@ -23,9 +23,9 @@ use Rattle.granit_machine.specs.LexemeSort.{ColonSign, AliasSign, AnchorSign, Ta
 use Rattle.granit_machine.specs.LexemeSort.{StrayMark, NoSign, LexemeSort, TextEnd, StartMark, EndMark, DirectiveSign}
 use Rattle.granit_machine.specs.LexemeSort.{Unprintable, Placed}
 use Rattle.granit_machine.specs.PossibleKeys.{top_key}
-use Rattle.granit_reading.proofs.ColumnsKept.{at_most_has}
-use Rattle.granit_reading.proofs.ColumnsLaw.{front_flow, cols}
-use Rattle.granit_reading.proofs.Telling.{SaysOf}
+use Rattle.granit_places.proofs.ColumnsKept.{at_most_has}
+use Rattle.granit_places.proofs.ColumnsLaw.{front_flow, cols}
+use Rattle.granit_places.proofs.Telling.{SaysOf}
 use Rattle.granit_before.proofs.TabsLeft.{left_of, Styled, flow_tabs, placed_columns, placed_rolled, outer_rolled}
 use Rattle.granit_before.proofs.TabsLeft.{question_rolled, colon_rolled}
 use Rattle.granit_before.specs.Tabs.{ends_sign, AsksFurther, keeps_in_flow}
@@ -365,7 +365,7 @@ module _ (text : List ℕ) (ls : List Lexeme) (l : Laid) (said : ColumnsSay ls l
     out_step (Placed (OpenSign bracket)) s t = opener_step bracket s.is
     out_step (Placed (CloseSign bracket)) s t =
         let m = front (Placed (CloseSign bracket)) in
-        let b = Rattle.granit_reading.proofs.Moving.left_open m.brackets bracket s.1 in
+        let b = Rattle.granit_places.proofs.Moving.left_open m.brackets bracket s.1 in
         absurd (let z = sym (ap is_nonempty b.2) ∙ (front_flow (Placed (CloseSign bracket)) h l ∙ out) in cc)
     out_step (Placed CommaSign) s t = stays CommaSign _ refl s.is refl refl refl refl
     out_step (Placed DashSign) s t = dash_step s.0.is t (is_before_break g) refl

@@ -1,7 +1,5 @@
 pub mod Certain
 pub mod CutText
-pub mod DeclaredCause
-pub mod DeclaredReading
 pub mod Fields
 pub mod HeldKeys
 pub mod KeyBegins
@@ -12,4 +10,3 @@ pub mod StillBegins
 pub mod Tabs
 pub mod ToldComments
 pub mod Touching
-pub mod Worked

@@ -2,8 +2,8 @@
 use Rattle.std.specs.Prelude.{◌≡◌, List, [], ◌∷◌, Option, Some, None}
 use Rattle.granit_base.specs.declared.style.Placement.{Placement}
 use Rattle.granit_base.specs.declared.style.Placement.TheVariants.{Right}
-use Rattle.granit_invariants.specs.CommentEvents.{comment_event}
-use Rattle.granit_invariants.specs.Placements.{PlacedAs}
+use Rattle.granit_quiet.specs.CommentEvents.{comment_event}
+use Rattle.granit_comment_places.specs.Placements.{PlacedAs}
 use Rattle.granit_lexemes.specs.Comment.{CommentRead}
 use Rattle.granit_lexemes.specs.Lexeme.{LexemeKind, Dash, Item, OfLexeme, OfComment}
 use Rattle.granit_lexemes.specs.PlainEvent.{PlainEvent}

@@ -4,16 +4,16 @@ use Rattle.std.proofs.Common.{◌++◌, ◌<◌, ◌==◌, ◌∙◌, ◌∷◌,
 use Rattle.std.specs.Prelude.{None, if◌then◌else◌}
 use Rattle.granit_base.specs.Classes.{is_blank, is_break}
 use Rattle.granit_base.specs.Place.{Mark}
-use Rattle.granit_block_layout.proofs.Columns.{widened_map}
-use Rattle.granit_block_layout.proofs.Keyed.{node_on, noded_kept, open_columns}
-use Rattle.granit_block_layout.proofs.Lines.{along_one, is_flat}
-use Rattle.granit_block_layout.proofs.Ready.{Around, Arrived, Behind, OnLine, bound, inside, leads}
-use Rattle.granit_block_layout.proofs.Ready.{outside, tail_read}
-use Rattle.granit_block_layout.proofs.Signs.{keyed_outside, no_left_inside}
-use Rattle.granit_block_layout.proofs.Taking.{Taken}
-use Rattle.granit_canonical.proofs.Places.{Starts, held_on}
-use Rattle.granit_canonical.proofs.Taking.{begins_text}
-use Rattle.granit_canonical.proofs.Signs.{closer_begins, opener_begins}
+use Rattle.granit_block_lines.proofs.Columns.{widened_map}
+use Rattle.granit_block_lines.proofs.Keyed.{node_on, noded_kept, open_columns}
+use Rattle.granit_block_lines.proofs.Lines.{along_one, is_flat}
+use Rattle.granit_block_lines.proofs.Ready.{Around, Arrived, Behind, OnLine, bound, inside, leads}
+use Rattle.granit_block_lines.proofs.Ready.{outside, tail_read}
+use Rattle.granit_block_lines.proofs.Signs.{keyed_outside, no_left_inside}
+use Rattle.granit_block_lines.proofs.Taking.{Taken}
+use Rattle.granit_canonical_steps.proofs.Places.{Starts, held_on}
+use Rattle.granit_canonical_steps.proofs.Taking.{begins_text}
+use Rattle.granit_canonical_steps.proofs.Signs.{closer_begins, opener_begins}
 use Rattle.granit_error.specs.OptionsData.{OptionsData}
 use Rattle.granit_language.specs.Before.{behind, in_front}
 use Rattle.granit_language.specs.Reached.{ends_column_by}
@@ -30,7 +30,7 @@ use Rattle.granit_machine.specs.Columns.{up_to_column}
 use Rattle.granit_machine.specs.Laid.{is_adjacent, is_in_flow, is_nonempty}
 use Rattle.granit_machine.specs.LexemeSort.{CloseSign, OpenSign, Placed}
 use Rattle.granit_machine.specs.ReaderState.{ReaderState, lexeme_to, with_tail}
-use Rattle.granit_reading.proofs.ColumnsLaw.{cols}
+use Rattle.granit_places.proofs.ColumnsLaw.{cols}
 
 opener_flat : (b : Bracket) → is_flat (opener_char b) ≡ true
 unfolding is_break

@@ -6,21 +6,21 @@ use Rattle.std.proofs.Common.{◌∷◌, ◌≡◌, ◌≤◌}
 use Rattle.std.proofs.lemmas.Bool.Decides.{nat_tests}
 use Rattle.std.specs.Prelude.{None, Some}
 use Rattle.granit_base.specs.Place.{Mark}
-use Rattle.granit_block_layout.proofs.Columns.{Enters, again, up_self}
+use Rattle.granit_block_lines.proofs.Columns.{Enters, again, up_self}
 use Rattle.granit_block_layout.proofs.Fronts.{block_pair, open_behind, open_gap, open_starts, open_text, opening}
-use Rattle.granit_block_layout.proofs.Lines.{indent_front}
+use Rattle.granit_block_lines.proofs.Lines.{indent_front}
 use Rattle.granit_block_layout.proofs.Nodes.{Closes, NodeRead}
-use Rattle.granit_block_layout.proofs.Passing.{Follows, right_of, value_in}
-use Rattle.granit_block_layout.proofs.Ready.{Begun, Ready, bound, leads}
-use Rattle.granit_block_layout.proofs.Signs.{takes_colon, takes_dash, takes_question}
-use Rattle.granit_block_layout.proofs.Taking.{reads_one}
+use Rattle.granit_block_lines.proofs.Passing.{Follows, right_of, value_in}
+use Rattle.granit_block_lines.proofs.Ready.{Begun, Ready, bound, leads}
+use Rattle.granit_block_lines.proofs.Signs.{takes_colon, takes_dash, takes_question}
+use Rattle.granit_block_lines.proofs.Taking.{reads_one}
 use Rattle.granit_block_layout.proofs.Telling.{tree_tells}
 use Rattle.granit_block_layout.specs.Alike.{kinds_of}
-use Rattle.granit_canonical.proofs.Known.{Knows, knows_tree}
-use Rattle.granit_canonical.proofs.Nodes.{colon_starts, dash_starts, question_starts}
-use Rattle.granit_canonical.proofs.Passing.{Passage, passage_one, passage_then, place_in}
-use Rattle.granit_canonical.proofs.Places.{Starts}
-use Rattle.granit_canonical.specs.Canonical.{Anchors, past_tree, spot}
+use Rattle.granit_canonical_steps.proofs.Known.{Knows, knows_tree}
+use Rattle.granit_canonical_steps.proofs.Nodes.{colon_starts, dash_starts, question_starts}
+use Rattle.granit_canonical_steps.proofs.Passing.{Passage, passage_one, passage_then, place_in}
+use Rattle.granit_canonical_steps.proofs.Places.{Starts}
+use Rattle.granit_canonical_steps.specs.Canonical.{Anchors, past_tree, spot}
 use Rattle.granit_error.specs.OptionsData.{OptionsData}
 use Rattle.granit_generator.specs.BlockText.{block_node, indent}
 use Rattle.granit_language.specs.Node.{Asked, Just, Node, Pair, WithColon}

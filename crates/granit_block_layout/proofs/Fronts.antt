@@ -2,12 +2,12 @@
 use Rattle.std.proofs.Common.{List, Option, [], ap, refl, ℕ, ◌++◌, ◌+◌, ◌∙◌, ◌∷◌, ◌≡◌}
 use Rattle.std.specs.Prelude.{None, Some}
 use Rattle.std.specs.Str.{encode_utf8_all}
-use Rattle.granit_block_layout.proofs.Lines.{indent_front}
-use Rattle.granit_block_layout.proofs.Ready.{Behind, fed_to, spaced}
-use Rattle.granit_canonical.proofs.Names.{tag_source}
-use Rattle.granit_canonical.proofs.Nodes.{anchor_starts, anchor_text_is, dash_starts, opener_starts, properties_start}
-use Rattle.granit_canonical.proofs.Nodes.{question_starts, quote_starts, star_starts, tag_is, tag_starts}
-use Rattle.granit_canonical.proofs.Places.{Starts}
+use Rattle.granit_block_lines.proofs.Lines.{indent_front}
+use Rattle.granit_block_lines.proofs.Ready.{Behind, fed_to, spaced}
+use Rattle.granit_canonical_steps.proofs.Names.{tag_source}
+use Rattle.granit_canonical_steps.proofs.Nodes.{anchor_starts, anchor_text_is, dash_starts, opener_starts, properties_start}
+use Rattle.granit_canonical_steps.proofs.Nodes.{question_starts, quote_starts, star_starts, tag_is, tag_starts}
+use Rattle.granit_canonical_steps.proofs.Places.{Starts}
 use Rattle.granit_generator.specs.BlockText.{block_entries, block_node, block_pairs, indent, spaced_anchor}
 use Rattle.granit_generator.specs.BlockText.{spaced_properties}
 use Rattle.granit_lexemes.specs.declared.layout.Bracket.TheVariants.{Curly, Square}

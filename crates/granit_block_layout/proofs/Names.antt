@@ -6,18 +6,18 @@ use lib.Utf8.{scalars}
 use Rattle.granit_base.specs.Classes.{is_anchor_char, is_blank, is_blank_or_breakz, is_bom, is_break, is_breakz}
 use Rattle.granit_base.specs.Classes.{is_flow, is_printable, is_yaml_non_break, is_yaml_non_space, is_z}
 use Rattle.granit_base.specs.Place.{first}
-use Rattle.granit_block_layout.proofs.Flats.{name_flat, tag_flat}
-use Rattle.granit_block_layout.proofs.Keyed.{node_on, noded_kept, open_columns}
-use Rattle.granit_block_layout.proofs.Lines.{Along, along_all, is_flat}
-use Rattle.granit_block_layout.proofs.Ready.{Arrived, Behind, OnLine, behind_gap_is, bound, fed_to, lands}
-use Rattle.granit_block_layout.proofs.Ready.{leads, spaced}
-use Rattle.granit_block_layout.proofs.Signs.{keyed_outside, no_left_inside}
-use Rattle.granit_block_layout.proofs.Taking.{Taken}
-use Rattle.granit_canonical.proofs.Names.{alias_begins, anchor_begins, head_is, tag_begins, tag_source}
-use Rattle.granit_canonical.proofs.Naming.{bytes_spell, each_of, uri_some, utf8_bytes}
-use Rattle.granit_canonical.proofs.Places.{Held, past_all}
-use Rattle.granit_canonical.proofs.Taking.{begins_text}
-use Rattle.granit_canonical.specs.Canonical.{lent_name}
+use Rattle.granit_block_lines.proofs.Flats.{name_flat, tag_flat}
+use Rattle.granit_block_lines.proofs.Keyed.{node_on, noded_kept, open_columns}
+use Rattle.granit_block_lines.proofs.Lines.{Along, along_all, is_flat}
+use Rattle.granit_block_lines.proofs.Ready.{Arrived, Behind, OnLine, behind_gap_is, bound, fed_to, lands}
+use Rattle.granit_block_lines.proofs.Ready.{leads, spaced}
+use Rattle.granit_block_lines.proofs.Signs.{keyed_outside, no_left_inside}
+use Rattle.granit_block_lines.proofs.Taking.{Taken}
+use Rattle.granit_canonical_steps.proofs.Names.{alias_begins, anchor_begins, head_is, tag_begins, tag_source}
+use Rattle.granit_canonical_steps.proofs.Naming.{bytes_spell, each_of, uri_some, utf8_bytes}
+use Rattle.granit_canonical_steps.proofs.Places.{Held, past_all}
+use Rattle.granit_canonical_steps.proofs.Taking.{begins_text}
+use Rattle.granit_canonical_steps.specs.Canonical.{lent_name}
 use Rattle.granit_error.specs.OptionsData.{OptionsData}
 use Rattle.granit_language.specs.Before.{behind, in_front}
 use Rattle.granit_language.specs.Reached.{ends_column_by}

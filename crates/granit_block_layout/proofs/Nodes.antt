@@ -13,20 +13,20 @@ use Rattle.granit_base.specs.declared.style.ScalarStyle.TheVariants.{DoubleQuote
 use Rattle.granit_block_layout.proofs.Empties.{takes_closer, takes_opener}
 use Rattle.granit_block_layout.proofs.Fronts.{front_behind, front_text, inline_front}
 use Rattle.granit_block_layout.proofs.Names.{takes_alias, takes_anchor, takes_tag}
-use Rattle.granit_block_layout.proofs.Passing.{BlockRoom, Follows, part_in, room_on}
+use Rattle.granit_block_lines.proofs.Passing.{BlockRoom, Follows, part_in, room_on}
 use Rattle.granit_block_layout.proofs.Quotes.{takes_quoted}
-use Rattle.granit_block_layout.proofs.Ready.{Begun, Behind, OnLine, Ready, Where, bound, fed_to, leads, spaced, up_to}
-use Rattle.granit_block_layout.proofs.Taking.{OneRead, reads_one}
+use Rattle.granit_block_lines.proofs.Ready.{Begun, Behind, OnLine, Ready, Where, bound, fed_to, leads, spaced, up_to}
+use Rattle.granit_block_lines.proofs.Taking.{OneRead, reads_one}
 use Rattle.granit_block_layout.proofs.Telling.{alias_kind, kinds_append, node_tells, start_tells}
 use Rattle.granit_block_layout.specs.Alike.{kinds_of, unstyled}
-use Rattle.granit_canonical.proofs.Flows.{ending, opening}
-use Rattle.granit_canonical.proofs.Names.{tag_source}
-use Rattle.granit_canonical.proofs.Nodes.{anchor_starts, closer_starts, opener_starts, quote_starts, star_starts}
-use Rattle.granit_canonical.proofs.Nodes.{tag_starts}
-use Rattle.granit_canonical.proofs.Passing.{Passage, passage_none, passage_one, passage_then, place_in}
-use Rattle.granit_canonical.proofs.Places.{Starts}
-use Rattle.granit_canonical.proofs.Spelling.{CanStand}
-use Rattle.granit_canonical.specs.Canonical.{Anchors, between_quotes, lent_name, past_anchor}
+use Rattle.granit_canonical_steps.proofs.Flows.{ending, opening}
+use Rattle.granit_canonical_steps.proofs.Names.{tag_source}
+use Rattle.granit_canonical_steps.proofs.Nodes.{anchor_starts, closer_starts, opener_starts, quote_starts, star_starts}
+use Rattle.granit_canonical_steps.proofs.Nodes.{tag_starts}
+use Rattle.granit_canonical_steps.proofs.Passing.{Passage, passage_none, passage_one, passage_then, place_in}
+use Rattle.granit_canonical_steps.proofs.Places.{Starts}
+use Rattle.granit_canonical_steps.proofs.Spelling.{CanStand}
+use Rattle.granit_canonical_steps.specs.Canonical.{Anchors, between_quotes, lent_name, past_anchor}
 use Rattle.granit_error.specs.OptionsData.{OptionsData}
 use Rattle.granit_generator.specs.BlockText.{indent}
 use Rattle.granit_language.specs.Node.{AliasNode, NoItem, NoLast, NoProperties, Node, One, ScalarNode, TreeProperties}

@@ -6,19 +6,19 @@ use lib.Utf8.{scalars}
 use Rattle.granit_base.specs.Place.{Mark, first}
 use Rattle.granit_base.specs.Written.{Written}
 use Rattle.granit_base.specs.declared.style.ScalarStyle.TheVariants.{DoubleQuoted}
-use Rattle.granit_block_layout.proofs.Flats.{high_flat, quoted_flat}
-use Rattle.granit_block_layout.proofs.Keyed.{node_on, noded_kept, open_columns}
-use Rattle.granit_block_layout.proofs.Lines.{along_all, along_then, is_flat, line_gap}
-use Rattle.granit_block_layout.proofs.Ready.{Arrived, Begun, OnLine, bound, fed_to, lands}
-use Rattle.granit_block_layout.proofs.Signs.{keyed_outside, no_left_inside}
-use Rattle.granit_block_layout.proofs.Taking.{Taken, no_tab_fits}
-use Rattle.granit_canonical.proofs.Calm.{no_cut_fits}
-use Rattle.granit_canonical.proofs.Fronts.{quoted_front}
-use Rattle.granit_canonical.proofs.Places.{Starts, blank_feed, gap_stops, gap_to, past_all}
-use Rattle.granit_canonical.proofs.Quoting.{spelled_between}
-use Rattle.granit_canonical.proofs.Taking.{begins_text}
-use Rattle.granit_canonical.specs.Canonical.{between_quotes}
-use Rattle.granit_canonical.proofs.Quotes.{closing_quote, ends_by, feed_trails, quote_begins, text_between}
+use Rattle.granit_block_lines.proofs.Flats.{high_flat, quoted_flat}
+use Rattle.granit_block_lines.proofs.Keyed.{node_on, noded_kept, open_columns}
+use Rattle.granit_block_lines.proofs.Lines.{along_all, along_then, is_flat, line_gap}
+use Rattle.granit_block_lines.proofs.Ready.{Arrived, Begun, OnLine, bound, fed_to, lands}
+use Rattle.granit_block_lines.proofs.Signs.{keyed_outside, no_left_inside}
+use Rattle.granit_block_lines.proofs.Taking.{Taken, no_tab_fits}
+use Rattle.granit_canonical_steps.proofs.Calm.{no_cut_fits}
+use Rattle.granit_canonical_steps.proofs.Fronts.{quoted_front}
+use Rattle.granit_canonical_steps.proofs.Places.{Starts, blank_feed, gap_stops, gap_to, past_all}
+use Rattle.granit_canonical_steps.proofs.Quoting.{spelled_between}
+use Rattle.granit_canonical_steps.proofs.Taking.{begins_text}
+use Rattle.granit_canonical_steps.specs.Canonical.{between_quotes}
+use Rattle.granit_canonical_steps.proofs.Quotes.{closing_quote, ends_by, feed_trails, quote_begins, text_between}
 use Rattle.granit_error.specs.OptionsData.{OptionsData}
 use Rattle.granit_generator.specs.BlockText.{indent}
 use Rattle.granit_language.specs.Allowed.{MayPrefix}

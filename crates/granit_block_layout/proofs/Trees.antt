@@ -6,22 +6,22 @@ use Rattle.std.proofs.Common.{ℕ, ◌&&◌, ◌++◌, ◌+◌, ◌∙◌, ◌�
 use Rattle.std.proofs.Math.Nat.{le-max_left, le-max_right}
 use Rattle.std.proofs.lemmas.Bool.Decides.{nat_tests}
 use Rattle.std.specs.Prelude.{None, nat_le}
-use Rattle.granit_block_layout.proofs.Columns.{Enters, again, anew, up_bound, up_less, up_self}
+use Rattle.granit_block_lines.proofs.Columns.{Enters, again, anew, up_bound, up_less, up_self}
 use Rattle.granit_block_layout.proofs.Entries.{Readable, entry_read, pair_read}
 use Rattle.granit_block_layout.proofs.Fronts.{block_pair, first_entries, first_pairs}
-use Rattle.granit_block_layout.proofs.Lines.{indent_front}
+use Rattle.granit_block_lines.proofs.Lines.{indent_front}
 use Rattle.granit_block_layout.proofs.Nodes.{Closes, alias_read, empty_read, node_starts, properties_read}
 use Rattle.granit_block_layout.proofs.Nodes.{scalar_read}
-use Rattle.granit_block_layout.proofs.Passing.{Follows, collection_in, follows_left}
-use Rattle.granit_block_layout.proofs.Ready.{Begun, OnLine, Ready, bound, fed_to}
+use Rattle.granit_block_lines.proofs.Passing.{Follows, collection_in, follows_left}
+use Rattle.granit_block_lines.proofs.Ready.{Begun, OnLine, Ready, bound, fed_to}
 use Rattle.granit_block_layout.proofs.Telling.{pairs_tell, start_tells, trees_tell}
 use Rattle.granit_block_layout.specs.Alike.{kinds_of}
-use Rattle.granit_canonical.proofs.Known.{Knows, knows_anchor, knows_pairs, knows_trees}
-use Rattle.granit_canonical.proofs.Nodes.{dash_starts, question_starts}
-use Rattle.granit_canonical.proofs.Passing.{Passage, passage_then}
-use Rattle.granit_canonical.proofs.Places.{Starts}
-use Rattle.granit_canonical.proofs.Spelling.{CanSpell, CanSpellPairs, CanSpellTrees}
-use Rattle.granit_canonical.specs.Canonical.{Anchors, past_anchor, past_pairs, past_tree, past_trees, spot}
+use Rattle.granit_canonical_steps.proofs.Known.{Knows, knows_anchor, knows_pairs, knows_trees}
+use Rattle.granit_canonical_steps.proofs.Nodes.{dash_starts, question_starts}
+use Rattle.granit_canonical_steps.proofs.Passing.{Passage, passage_then}
+use Rattle.granit_canonical_steps.proofs.Places.{Starts}
+use Rattle.granit_canonical_steps.proofs.Spelling.{CanSpell, CanSpellPairs, CanSpellTrees}
+use Rattle.granit_canonical_steps.specs.Canonical.{Anchors, past_anchor, past_pairs, past_tree, past_trees, spot}
 use Rattle.granit_canonical.proofs.Trees.{most_both}
 use Rattle.granit_error.specs.OptionsData.{OptionsData}
 use Rattle.granit_generator.specs.BlockText.{block_node, indent}

@@ -5,21 +5,21 @@ use Rattle.std.proofs.Common.{List, Option, [], ap, arith, refl, subst, sym, tru
 use Rattle.std.proofs.Math.Nat.{le-max_left, le-max_right}
 use Rattle.std.specs.Prelude.{None, Some}
 use Rattle.granit_block_layout.proofs.Fronts.{open_behind, open_gap, open_text, opening}
-use Rattle.granit_block_layout.proofs.Marks.{takes_end, takes_start}
-use Rattle.granit_block_layout.proofs.Passing.{Follows, right_of}
-use Rattle.granit_block_layout.proofs.Ready.{Begun, Ready, leads, none_past, outside}
-use Rattle.granit_block_layout.proofs.Taking.{reads_one}
+use Rattle.granit_block_lines.proofs.Marks.{takes_end, takes_start}
+use Rattle.granit_block_lines.proofs.Passing.{Follows, right_of}
+use Rattle.granit_block_lines.proofs.Ready.{Begun, Ready, leads, none_past, outside}
+use Rattle.granit_block_lines.proofs.Taking.{reads_one}
 use Rattle.granit_block_layout.proofs.Telling.{documents_kinds, documents_tell}
 use Rattle.granit_block_layout.proofs.Trees.{tree_read}
 use Rattle.granit_block_layout.specs.Alike.{kinds_of}
-use Rattle.granit_canonical.proofs.Known.{knows_none}
-use Rattle.granit_canonical.proofs.Nodes.{dash_starts}
-use Rattle.granit_canonical.proofs.Passing.{Passage, passage_none, passage_one, passage_then, place_in}
-use Rattle.granit_canonical.proofs.Places.{Starts, starts_end, starts_held}
-use Rattle.granit_canonical.proofs.Spelling.{CanSpell, CanSpellTrees, documents_spell}
+use Rattle.granit_canonical_steps.proofs.Known.{knows_none}
+use Rattle.granit_canonical_steps.proofs.Nodes.{dash_starts}
+use Rattle.granit_canonical_steps.proofs.Passing.{Passage, passage_none, passage_one, passage_then, place_in}
+use Rattle.granit_canonical_steps.proofs.Places.{Starts, starts_end, starts_held}
+use Rattle.granit_canonical_steps.proofs.Spelling.{CanSpell, CanSpellTrees, documents_spell}
 use Rattle.granit_canonical.proofs.Whole.{BareRead, RootsPlaced, no_anchors, no_version, roots_within, start_behind}
 use Rattle.granit_canonical.proofs.Whole.{start_placed, start_within_roots, stream_of, stream_tells, whole_read}
-use Rattle.granit_canonical.specs.Canonical.{canonical_events, past_documents, past_tree, renewed, spot}
+use Rattle.granit_canonical_steps.specs.Canonical.{canonical_events, past_documents, past_tree, renewed, spot}
 use Rattle.granit_error.specs.OptionsData.{OptionsData}
 use Rattle.granit_generator.specs.BlockText.{block_characters, block_documents, block_node}
 use Rattle.granit_language.specs.Node.{ExplicitRoot, Just, Rooted}

@@ -1,7 +1,7 @@
 -- What events tell but for the styles of collections and their spans.
 use Rattle.std.specs.Prelude.{◌≡◌, List, Ok, map}
 use Rattle.granit_base.specs.declared.style.StructureStyle.TheVariants.{Flow}
-use Rattle.granit_canonical.specs.Canonical.{canonical_events}
+use Rattle.granit_canonical_steps.specs.Canonical.{canonical_events}
 use Rattle.granit_error.specs.OptionsData.{OptionsData}
 use Rattle.granit_generator.specs.BlockText.{block_characters}
 use Rattle.granit_lexemes.specs.PlainEvent.{EventKind, MappingStart, PlainEvent, SequenceStart}

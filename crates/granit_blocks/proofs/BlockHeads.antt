@@ -26,7 +26,7 @@ use Rattle.granit_lexemes.specs.HeaderExtent.{takes_none, HeaderStands, HeaderFr
 use Rattle.granit_lexemes.specs.HeaderExtent.{commented, uncommented}
 use Rattle.granit_lexemes.specs.Tail.{tail_behind, tail_at}
 use Rattle.granit_blocks.proofs.Moving.{Past, past_reads, past_is}
-use Rattle.granit_scalars.proofs.QuotedTail.{is_blank_nul}
+use Rattle.granit_quoted_laws.proofs.QuotedTail.{is_blank_nul}
 
 -- ---- the header
 

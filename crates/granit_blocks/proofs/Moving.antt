@@ -16,9 +16,9 @@ use Rattle.granit_lexemes.specs.BlockScalar.{over_spaces, indented}
 use Rattle.granit_lexemes.specs.BlockMoves.{Crosses, Breaks, AllSpaces, no_space, space, Spaces, at_column}
 use Rattle.granit_lexemes.specs.BlockMoves.{no_space_left, space_left}
 use Rattle.granit_lexemes.proofs.HereLemmas.{past_goes, past_stops, step_len, stepped_text}
-use Rattle.granit_scalars.proofs.QuotedKept.{one_broken}
+use Rattle.granit_quoted_laws.proofs.QuotedKept.{one_broken}
 use Rattle.granit_scalars.proofs.Stepping.{seen, column_on, broken}
-use Rattle.granit_scalars.proofs.QuotedGaps.{break_first, past_one}
+use Rattle.granit_quoted_laws.proofs.QuotedGaps.{break_first, past_one}
 
 -- ---- over the characters that pass a test
 

@@ -6,10 +6,10 @@ use Rattle.std.specs.Prelude.{None}
 use Rattle.granit_lexemes.proofs.PieceLemmas.{fault_none}
 use Rattle.granit_answers.proofs.OneCause.{answer_reads, reading_answered, unasked_silent}
 use Rattle.granit_canonical.proofs.Whole.{AreBare, BareRead, flagged_bare, items_of, text_read, unflagged}
-use Rattle.granit_canonical.specs.Canonical.{canonical_events}
+use Rattle.granit_canonical_steps.specs.Canonical.{canonical_events}
 use Rattle.granit_error.specs.OptionsData.{OptionsData}
-use Rattle.granit_invariants.specs.CommentEvents.{comment_events, only_comments, tail_events}
-use Rattle.granit_invariants.specs.Quiet.{but_comments}
+use Rattle.granit_quiet.specs.CommentEvents.{comment_events, only_comments, tail_events}
+use Rattle.granit_quiet.specs.Quiet.{but_comments}
 use Rattle.granit_language.specs.CommentRows.{AreComments, RowTooLong, tail_comments}
 use Rattle.granit_language.specs.Telling.{events_told}
 use Rattle.granit_language.specs.TextFault.{NoneTold}

@@ -6,20 +6,20 @@ use Rattle.std.proofs.Common.{◌≡◌, ◌≤◌}
 use Rattle.std.proofs.Math.Nat.{le-max_left, le-max_right}
 use Rattle.std.specs.Prelude.{None}
 use Rattle.granit_base.specs.Place.{Mark}
-use Rattle.granit_canonical.proofs.Calm.{Calm, Fine}
-use Rattle.granit_canonical.proofs.Flows.{flow_read, no_contents}
-use Rattle.granit_canonical.proofs.Known.{Knows, knows_anchor, knows_pairs, knows_tree, knows_trees}
-use Rattle.granit_canonical.proofs.Names.{EndsName, ends_closer, ends_comma, ends_spaced}
-use Rattle.granit_canonical.proofs.Nodes.{NodeRead, alias_read, closer_starts, colon_starts, comma_starts}
-use Rattle.granit_canonical.proofs.Nodes.{opener_starts, properties_start, question_starts, quote_starts, scalar_read}
-use Rattle.granit_canonical.proofs.Nodes.{star_starts}
-use Rattle.granit_canonical.proofs.Passing.{Passage, passage_one, passage_then, place_in, plain_inside, plain_item}
-use Rattle.granit_canonical.proofs.Places.{Before, Starts, spaced, touching}
-use Rattle.granit_canonical.proofs.Signs.{takes_colon, takes_comma, takes_question}
-use Rattle.granit_canonical.proofs.Spelling.{CanSpell, CanSpellPairs, CanSpellTrees}
-use Rattle.granit_canonical.proofs.Taking.{Follows, follows_parts, follows_starts, in_brackets, reads_one}
-use Rattle.granit_canonical.specs.Canonical.{Anchors, entries_before, pairs_before, past_anchor, past_pairs, past_tree}
-use Rattle.granit_canonical.specs.Canonical.{past_trees, tree_before}
+use Rattle.granit_canonical_steps.proofs.Calm.{Calm, Fine}
+use Rattle.granit_canonical_steps.proofs.Flows.{flow_read, no_contents}
+use Rattle.granit_canonical_steps.proofs.Known.{Knows, knows_anchor, knows_pairs, knows_tree, knows_trees}
+use Rattle.granit_canonical_steps.proofs.Names.{EndsName, ends_closer, ends_comma, ends_spaced}
+use Rattle.granit_canonical_steps.proofs.Nodes.{NodeRead, alias_read, closer_starts, colon_starts, comma_starts}
+use Rattle.granit_canonical_steps.proofs.Nodes.{opener_starts, properties_start, question_starts, quote_starts, scalar_read}
+use Rattle.granit_canonical_steps.proofs.Nodes.{star_starts}
+use Rattle.granit_canonical_steps.proofs.Passing.{Passage, passage_one, passage_then, place_in, plain_inside, plain_item}
+use Rattle.granit_canonical_steps.proofs.Places.{Before, Starts, spaced, touching}
+use Rattle.granit_canonical_steps.proofs.Signs.{takes_colon, takes_comma, takes_question}
+use Rattle.granit_canonical_steps.proofs.Spelling.{CanSpell, CanSpellPairs, CanSpellTrees}
+use Rattle.granit_canonical_steps.proofs.Taking.{Follows, follows_parts, follows_starts, in_brackets, reads_one}
+use Rattle.granit_canonical_steps.specs.Canonical.{Anchors, entries_before, pairs_before, past_anchor, past_pairs, past_tree}
+use Rattle.granit_canonical_steps.specs.Canonical.{past_trees, tree_before}
 use Rattle.granit_error.specs.OptionsData.{OptionsData}
 use Rattle.granit_language.specs.Node.{AfterItem, Asked, FlowLead, Just, LastItem, NoItem, Node, Pair, Paired, Single}
 use Rattle.granit_language.specs.Node.{WithColon}

@@ -7,20 +7,20 @@ use Rattle.std.proofs.Math.Nat.{le-max_left, le-max_right}
 use Rattle.std.proofs.lemmas.List.{length-drop}
 use Rattle.std.specs.Prelude.{None, Some}
 use Rattle.granit_base.specs.Place.{Mark}
-use Rattle.granit_canonical.proofs.Calm.{Calm, calm_start}
-use Rattle.granit_canonical.proofs.Known.{knows_none}
-use Rattle.granit_canonical.proofs.Marks.{takes_end, takes_start}
-use Rattle.granit_canonical.proofs.Names.{ends_fed}
-use Rattle.granit_canonical.proofs.Nodes.{dash_starts}
-use Rattle.granit_canonical.proofs.Passing.{Lexed, Passage, and_lexeme, means_append, no_lexeme, passage_none}
-use Rattle.granit_canonical.proofs.Passing.{passage_one, passage_then, place_in, plain_root, scope_of}
-use Rattle.granit_canonical.proofs.Passing.{seen, seen_append}
-use Rattle.granit_canonical.proofs.Places.{Before, Held, Starts, directly, starts_end, starts_held}
-use Rattle.granit_canonical.proofs.Spelling.{CanSpell, CanSpellTrees, documents_spell}
-use Rattle.granit_canonical.proofs.Taking.{Taken, at_line, reads_one}
+use Rattle.granit_canonical_steps.proofs.Calm.{Calm, calm_start}
+use Rattle.granit_canonical_steps.proofs.Known.{knows_none}
+use Rattle.granit_canonical_steps.proofs.Marks.{takes_end, takes_start}
+use Rattle.granit_canonical_steps.proofs.Names.{ends_fed}
+use Rattle.granit_canonical_steps.proofs.Nodes.{dash_starts}
+use Rattle.granit_canonical_steps.proofs.Passing.{Lexed, Passage, and_lexeme, means_append, no_lexeme, passage_none}
+use Rattle.granit_canonical_steps.proofs.Passing.{passage_one, passage_then, place_in, plain_root, scope_of}
+use Rattle.granit_canonical_steps.proofs.Passing.{seen, seen_append}
+use Rattle.granit_canonical_steps.proofs.Places.{Before, Held, Starts, directly, starts_end, starts_held}
+use Rattle.granit_canonical_steps.proofs.Spelling.{CanSpell, CanSpellTrees, documents_spell}
+use Rattle.granit_canonical_steps.proofs.Taking.{Taken, at_line, reads_one}
 use Rattle.granit_canonical.proofs.Trees.{tree_read}
-use Rattle.granit_canonical.specs.Canonical.{Anchors, canonical_events, documents_before, past_documents, past_tree}
-use Rattle.granit_canonical.specs.Canonical.{renewed, stretch, tree_before}
+use Rattle.granit_canonical_steps.specs.Canonical.{Anchors, canonical_events, documents_before, past_documents, past_tree}
+use Rattle.granit_canonical_steps.specs.Canonical.{renewed, stretch, tree_before}
 use Rattle.granit_error.specs.OptionsData.{OptionsData}
 use Rattle.granit_language.proofs.Scopes.{scoped_append}
 use Rattle.granit_language.specs.Node.{AfterRoot, AtFresh, Beginning, EndFresh, EndRooted, ExplicitRoot, Just, Rooted}
@@ -52,8 +52,8 @@ use Rattle.granit_model.specs.Characters.{HasCharacters}
 use Rattle.granit_model.specs.FlowText.{documents_text, flow_characters, tree_text}
 use Rattle.granit_model.specs.Tree.{AfterTrees, DocumentsFit, NoTrees, PlainTree, PlainTrees, TreeFits, tree_depth}
 use Rattle.granit_model.specs.Tree.{trees_depth}
-use Rattle.granit_reading.proofs.Counting.{column_behind}
-use Rattle.granit_canonical.proofs.Passing.{flag_bare}
+use Rattle.granit_places.proofs.Counting.{column_behind}
+use Rattle.granit_canonical_steps.proofs.Passing.{flag_bare}
 
 -- ---- documents
 

@@ -1,6 +1,6 @@
 //! Canonical flow text is read back.
 ghost use Rattle.std.specs.Prelude.{◌≡◌, ◌≤◌, Ok};
-ghost use Rattle.granit_canonical.specs.Canonical.{canonical_events};
+ghost use Rattle.granit_canonical_steps.specs.Canonical.{canonical_events};
 ghost use Rattle.granit_error.specs.OptionsData.{OptionsData};
 ghost use Rattle.granit_machine.specs.Machine.{run};
 ghost use Rattle.granit_model.specs.Characters.{HasCharacters};

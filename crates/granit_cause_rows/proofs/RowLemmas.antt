@@ -4,8 +4,8 @@ use Rattle.std.proofs.Common.{refl}
 use Rattle.std.proofs.lemmas.Bool.{eq-eqb, both_ways}
 use Rattle.granit_answers.proofs.CommentsCaused.{any_fault_caused}
 use Rattle.granit_answers.proofs.OneCause.{cause_answered}
-use Rattle.granit_before.proofs.CauseSaid.{cause_declared, declared_cause}
-use Rattle.granit_before.specs.DeclaredCause.{DeclaredCause}
+use Rattle.granit_declared.proofs.CauseSaid.{cause_declared, declared_cause}
+use Rattle.granit_declared.specs.DeclaredCause.{DeclaredCause}
 use Rattle.granit_error.specs.FaultKind.{fault_number}
 use Rattle.granit_error.specs.OptionsData.{OptionsData}
 use Rattle.granit_lexemes.specs.Outcome.{Fault}

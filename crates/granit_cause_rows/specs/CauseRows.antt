@@ -1,7 +1,7 @@
 -- The rows of a table: a text with its cause and the place of its mark, and a text that has no such cause.
 use Rattle.std.specs.Prelude.{◌≡◌, ℕ, List, Some}
 use Rattle.granit_base.specs.Place.{Mark}
-use Rattle.granit_before.specs.DeclaredCause.{DeclaredCause}
+use Rattle.granit_declared.specs.DeclaredCause.{DeclaredCause}
 use Rattle.granit_error.specs.FaultKind.{FaultKind, fault_number}
 use Rattle.granit_error.specs.OptionsData.{OptionsData}
 use Rattle.granit_lexemes.specs.Outcome.{Fault, fault_at}

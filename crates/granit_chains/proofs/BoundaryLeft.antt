@@ -5,7 +5,7 @@ use Rattle.granit_lexemes.proofs.HereLemmas.{step_len}
 use Rattle.granit_lexemes.specs.Here.{Here, step, text_len}
 use Rattle.granit_lexemes.specs.Moves.{past_prefix_mark, steps}
 use Rattle.granit_lexemes.specs.Onward.{Onward, begun, over_mark, stepped, there}
-use Rattle.granit_machine.proofs.LengthLemmas.{here_if}
+use Rattle.granit_termination.proofs.LengthLemmas.{here_if}
 use Rattle.granit_restart.proofs.BoundaryLaws.{finds_next}
 use Rattle.granit_restart.specs.Boundary.{AtStart, AtTextEnd, Boundary, next_boundary, over_dropped, PastEnd}
 use Rattle.granit_restart.specs.NextBoundary.{BoundaryStands, next_behind, next_here, NextBoundary, stands_end}

@@ -21,8 +21,8 @@ use Rattle.granit_restart.specs.Calls.{Calls, GivenByCall, next_call}
 use Rattle.granit_restart.specs.Recovery.{looked_by, resumed, starts_by}
 use Rattle.granit_restart.specs.Skipping.{Stops}
 use Rattle.granit_restart.specs.Turned.{with_count}
-use Rattle.granit_shifted.specs.Led.{Led}
-use Rattle.granit_shifted.specs.Stopping.{FitBehind, looked_at}
+use Rattle.granit_led.specs.Led.{Led}
+use Rattle.granit_led.specs.Stopping.{FitBehind, looked_at}
 use Rattle.granit_steps.specs.Steps.{StepState}
 
 -- ---- between two recoveries

@@ -7,8 +7,8 @@ use Rattle.granit_chains.specs.Chains.{ends_among, given_ends, state_left, left_
 use Rattle.granit_error.specs.OptionsData.{OptionsData}
 use Rattle.granit_lexemes.specs.Outcome.{Fault, ◌>>=◌}
 use Rattle.granit_lexemes.specs.PlainEvent.{PlainEvent}
-use Rattle.granit_machine.proofs.LexLengths.{ReadFits, read-fits}
-use Rattle.granit_machine.proofs.ReadLengths.{reader_len}
+use Rattle.granit_termination.proofs.LexLengths.{ReadFits, read-fits}
+use Rattle.granit_termination.proofs.ReadLengths.{reader_len}
 use Rattle.granit_machine.specs.Frames.{ParserState}
 use Rattle.granit_machine.specs.Lexing.{FlaggedItem}
 use Rattle.granit_machine.specs.Parser.{feed}

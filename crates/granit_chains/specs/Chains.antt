@@ -13,7 +13,7 @@ use Rattle.granit_restart.specs.Calls.{Calls, next_call}
 use Rattle.granit_restart.specs.Recovery.{recover}
 use Rattle.granit_restart.specs.Skipping.{Stops}
 use Rattle.granit_restart.specs.Turned.{with_count}
-use Rattle.granit_shifted.specs.Stopping.{FitBehind, looked_at}
+use Rattle.granit_led.specs.Stopping.{FitBehind, looked_at}
 use Rattle.granit_steps.specs.Steps.{StepState}
 
 -- ---- what is left

@@ -4,8 +4,8 @@ use Rattle.granit_answers.proofs.Answered.{bare_run, one_answer}
 use Rattle.granit_answers.proofs.Asked.{asked_run, bare_of, bare_silent}
 use Rattle.granit_comments.specs.TextComments.{ToldUnasked}
 use Rattle.granit_error.specs.OptionsData.{OptionsData}
-use Rattle.granit_invariants.proofs.CommentLaws.{run_same}
-use Rattle.granit_invariants.specs.Quiet.{asking, but_comments}
+use Rattle.granit_quiet.proofs.CommentLaws.{run_same}
+use Rattle.granit_quiet.specs.Quiet.{asking, but_comments}
 use Rattle.granit_lexemes.specs.Here.{start_of}
 use Rattle.granit_lexemes.specs.PlainEvent.{PlainEvent}
 use Rattle.granit_machine.specs.Machine.{run}

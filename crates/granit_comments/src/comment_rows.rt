@@ -2,7 +2,7 @@
 ghost use Rattle.std.specs.Prelude.{◌++◌, ◌≡◌, codes, false};
 ghost use Rattle.granit_comments.specs.Rows.{commented_text, dash_text, holding_none, last_text};
 ghost use Rattle.granit_error.specs.OptionsData.{default_options};
-ghost use Rattle.granit_invariants.specs.Quiet.{asking};
+ghost use Rattle.granit_quiet.specs.Quiet.{asking};
 ghost use Rattle.granit_machine.specs.Events.{prints_under};
 
 /// Comments of each placement, behind a `-`, a header and a scalar and on lines of their own, with and without; and a

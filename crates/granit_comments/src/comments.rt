@@ -3,7 +3,7 @@ ghost use Rattle.std.specs.Prelude.{◌≡◌, ◌⊎◌, ℕ, List, Ok, Err, fa
 ghost use Rattle.granit_comments.specs.TextComments.{TellsComments, ToldUnasked};
 ghost use Rattle.granit_error.specs.FaultKind.{TooManyComments};
 ghost use Rattle.granit_error.specs.OptionsData.{OptionsData};
-ghost use Rattle.granit_invariants.specs.Quiet.{asking, but_comments};
+ghost use Rattle.granit_quiet.specs.Quiet.{asking, but_comments};
 ghost use Rattle.granit_lexemes.specs.Outcome.{Fault};
 ghost use Rattle.granit_lexemes.specs.PlainEvent.{PlainEvent};
 ghost use Rattle.granit_machine.specs.Machine.{run};

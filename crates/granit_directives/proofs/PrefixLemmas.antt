@@ -11,11 +11,11 @@ use Rattle.granit_lexemes.specs.DirectiveExtent.{bytes_of}
 use Rattle.granit_lexemes.specs.Gap.{Each}
 use Rattle.granit_lexemes.specs.Here.{Here, next_char, step}
 use Rattle.granit_lexemes.specs.PlainExtent.{over}
-use Rattle.granit_names.proofs.HandleLaw.{is_uri_or_blank, tag_uri, uri_part, each_as, part_bytes, bang_uri}
+use Rattle.granit_handles.proofs.HandleLaw.{is_uri_or_blank, tag_uri, uri_part, each_as, part_bytes, bang_uri}
 use Rattle.granit_names.proofs.Kept.{each-append}
 use Rattle.granit_names.proofs.Runs.{text_over}
 use Rattle.granit_names.proofs.TagLaw.{no_alpha_nul, alpha_tag}
-use Rattle.granit_names.proofs.VersionLaw.{all_over}
+use Rattle.granit_handles.proofs.VersionLaw.{all_over}
 use Rattle.granit_properties.proofs.TagLemmas.{past_word, handle_is}
 use Rattle.granit_properties.proofs.WordLemmas.{up_to_length, up_to_more}
 

@@ -13,7 +13,7 @@ use Rattle.granit_lexemes.specs.Outcome.{Fault}
 use Rattle.granit_error.specs.OptionsData.{OptionsData}
 use Rattle.granit_lexemes.specs.PlainEvent.{PlainEvent}
 use Rattle.granit_steps.specs.Levels.{IsStream}
-use Rattle.granit_steps.proofs.StreamLaws.{run_is_stream}
+use Rattle.granit_streams.proofs.StreamLaws.{run_is_stream}
 use Rattle.granit_events.specs.Ended.{Answers, machine_answer, not_utf8_line}
 use Rattle.granit_events.specs.Output.{CutOutput, WholeOutput}
 use Rattle.granit_events.specs.Wrote.{WroteFront}

@@ -6,8 +6,8 @@ use Rattle.std.specs.Io.KnownBytes.{Appends}
 use Rattle.granit_answers.proofs.CommentsCaused.{any_fault_caused}
 use Rattle.granit_answers.proofs.OneCause.{answer_reads, cause_answered, reading_answered}
 use Rattle.granit_base.specs.Written.{Written}
-use Rattle.granit_before.proofs.CauseSaid.{cause_declared, declared_cause}
-use Rattle.granit_before.proofs.ReadingSaid.{answer_declared, declared_answer}
+use Rattle.granit_declared.proofs.CauseSaid.{cause_declared, declared_cause}
+use Rattle.granit_declared.proofs.ReadingSaid.{answer_declared, declared_answer}
 use Rattle.granit_block_layout.proofs.Laws.{block_is_read}
 use Rattle.granit_block_layout.specs.Alike.{BlockAnswered}
 use Rattle.granit_canonical.proofs.Laws.{canonical_is_read}

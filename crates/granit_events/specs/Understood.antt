@@ -4,16 +4,16 @@ use Rattle.std.specs.Io.KnownBytes.{Appends}
 use Rattle.std.specs.Str.{chars, IsUtf8}
 use Rattle.granit_base.specs.Classes.{is_printable}
 use Rattle.granit_base.specs.Written.{Written}
-use Rattle.granit_before.specs.DeclaredCause.{DeclaredCause}
-use Rattle.granit_before.specs.DeclaredReading.{DeclaredReading}
+use Rattle.granit_declared.specs.DeclaredCause.{DeclaredCause}
+use Rattle.granit_declared.specs.DeclaredReading.{DeclaredReading}
 use Rattle.granit_block_layout.specs.Alike.{kinds_of}
-use Rattle.granit_canonical.specs.Canonical.{canonical_events}
+use Rattle.granit_canonical_steps.specs.Canonical.{canonical_events}
 use Rattle.granit_comments.specs.TextComments.{TellsComments, ToldUnasked}
 use Rattle.granit_error.specs.OptionsData.{OptionsData}
 use Rattle.granit_generator.specs.BlockText.{block_characters}
-use Rattle.granit_json.specs.Json.{Json, json_depth}
-use Rattle.granit_json.specs.JsonEvents.{json_events}
-use Rattle.granit_json.specs.JsonText.{JsonText, NamesFit}
+use Rattle.granit_json_scalars.specs.Json.{Json, json_depth}
+use Rattle.granit_json_scalars.specs.JsonEvents.{json_events}
+use Rattle.granit_json_scalars.specs.JsonText.{JsonText, NamesFit}
 use Rattle.granit_lexemes.specs.Gap.{Each}
 use Rattle.granit_lexemes.specs.Line.{event_lines, fault_line}
 use Rattle.granit_lexemes.specs.Outcome.{Fault}

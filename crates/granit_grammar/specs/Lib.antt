@@ -1,6 +1,1 @@
-pub mod EventMachine
-pub mod Guarded
-pub mod OpenWithin
-pub mod Passing
-pub mod PlaceFrames
 pub mod TreeMachine

@@ -14,7 +14,7 @@ use Rattle.granit_language.specs.Terminal.{PropertyKind, TerminalKind, Terminal,
 use Rattle.granit_language.specs.TreeEvents.{TreeEventKind, StreamStarts, StreamEnds, DocumentEnds, SequenceEnds}
 use Rattle.granit_language.specs.TreeEvents.{MappingEnds, DocumentStarts, AliasIs, ScalarIs, SequenceStarts}
 use Rattle.granit_language.specs.TreeEvents.{MappingStarts, TreeEvent}
-use Rattle.granit_grammar.specs.EventMachine.{EventAnswer, Events, Faulty, Unfinished, run_events}
+use Rattle.granit_event_machine.specs.EventMachine.{EventAnswer, Events, Faulty, Unfinished, run_events}
 
 -- ---- lexemes
 

@@ -4,8 +4,8 @@ use Rattle.granit_error.specs.OptionsData.{OptionsData, default_options}
 use Rattle.granit_lexemes.specs.Basics.{owned}
 use Rattle.granit_lexemes.specs.Lexeme.{Version, TagPrefix}
 use Rattle.granit_language.specs.Terminal.{Anchor, Tag, Alias, Property, Directive, Part}
-use Rattle.granit_grammar.specs.EventMachine.{EventAnswer, Events, Faulty, Unfinished}
-use Rattle.granit_grammar.specs.Guarded.{whole_run}
+use Rattle.granit_event_machine.specs.EventMachine.{EventAnswer, Events, Faulty, Unfinished}
+use Rattle.granit_event_machine.specs.Guarded.{whole_run}
 use Rattle.granit_grammar_rows.specs.Row.{Sketch, sketched, all_drawn, Telling, RefusedAs, EventsAre, Stops}
 
 -- `&` or `*` and one letter

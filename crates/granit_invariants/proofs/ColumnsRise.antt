@@ -10,13 +10,13 @@ use Rattle.granit_machine.specs.ReaderState.{ReaderState, reader_start}
 use Rattle.granit_language.specs.Before.{freshened}
 use Rattle.granit_language.specs.OpenColumns.{latest, AtMost, columns_of}
 use Rattle.granit_language.specs.Reached.{ends_column_by, Reads, of_comment, of_lexeme, Reached, stops, goes_on}
-use Rattle.granit_reading.proofs.ColumnsKept.{chosen, pop, push, pop_at_most, pop_below, KeySays, OpenSays, Change}
-use Rattle.granit_reading.proofs.ColumnsKept.{nothing, all_end, passes, own, keyed}
-use Rattle.granit_reading.proofs.ColumnsLaw.{columns_change, cols}
-use Rattle.granit_reading.proofs.ColumnsWhole.{agrees_said, fresh_said, reads_said}
-use Rattle.granit_reading.proofs.Telling.{gap_agrees, telling}
+use Rattle.granit_places.proofs.ColumnsKept.{chosen, pop, push, pop_at_most, pop_below, KeySays, OpenSays, Change}
+use Rattle.granit_places.proofs.ColumnsKept.{nothing, all_end, passes, own, keyed}
+use Rattle.granit_places.proofs.ColumnsLaw.{columns_change, cols}
+use Rattle.granit_places.proofs.ColumnsWhole.{agrees_said, fresh_said, reads_said}
+use Rattle.granit_places.proofs.Telling.{gap_agrees, telling}
 use Rattle.granit_invariants.specs.RisingColumns.{RightOf, Rise}
-use Rattle.granit_reading.proofs.ColumnsLaw.{is_below}
+use Rattle.granit_places.proofs.ColumnsLaw.{is_below}
 
 -- ---- lists
 

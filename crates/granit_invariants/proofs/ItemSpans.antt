@@ -35,7 +35,7 @@ use Rattle.granit_machine.specs.LexemeSort.{PlainSign, LexemeSort, TextEnd, Star
 use Rattle.granit_machine.specs.LexemeSort.{DirectiveSign, Placed}
 use Rattle.granit_machine.specs.NodeLexemes.{block_shown, note_items}
 use Rattle.granit_machine.specs.ReaderState.{ReaderState}
-use Rattle.granit_reading.proofs.PlacesLaw.{shown_from}
+use Rattle.granit_places.proofs.PlacesLaw.{shown_from}
 use Rattle.granit_scalars.proofs.PlainLaw.{Answered, answered}
 use Rattle.granit_invariants.proofs.Onward.{step_whole}
 

@@ -26,9 +26,9 @@ use Rattle.granit_machine.specs.PossibleKeys.{key_goes_on, node_key}
 use Rattle.granit_machine.specs.NodeLexemes.{note_items}
 use Rattle.granit_machine.specs.Reader.{is_end_kind, is_end, noded}
 use Rattle.granit_machine.specs.ReaderState.{ReaderState, reader_start}
-use Rattle.granit_reading.proofs.ColumnsLaw.{closed_brackets, closed_key}
-use Rattle.granit_reading.proofs.Moving.{lexeme_moved, closed_held}
-use Rattle.granit_reading.proofs.Telling.{SaysOf, Agrees, gap_agrees, telling}
+use Rattle.granit_places.proofs.ColumnsLaw.{closed_brackets, closed_key}
+use Rattle.granit_places.proofs.Moving.{lexeme_moved, closed_held}
+use Rattle.granit_places.proofs.Telling.{SaysOf, Agrees, gap_agrees, telling}
 
 -- ---- lists of keys
 

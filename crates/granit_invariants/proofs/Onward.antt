@@ -29,17 +29,17 @@ use Rattle.granit_lexemes.specs.QuotedExtent as quoted
 use Rattle.granit_lexemes.specs.QuotedScalar.{quote_char}
 use Rattle.granit_base.specs.Place.{Mark}
 use Rattle.granit_machine.specs.Gaps.{over_break_if}
-use Rattle.granit_machine.proofs.LexLengths.{ReadFits, lexeme-fits, read-fits}
-use Rattle.granit_machine.proofs.ReadLengths.{reader_len}
+use Rattle.granit_termination.proofs.LexLengths.{ReadFits, lexeme-fits, read-fits}
+use Rattle.granit_termination.proofs.ReadLengths.{reader_len}
 use Rattle.granit_machine.specs.Laid.{Laid, is_in_flow, is_adjacent, block_column}
 use Rattle.granit_machine.specs.LexemeSort.{OpenSign, CloseSign, CommaSign, DashSign, QuestionSign, ColonSign}
 use Rattle.granit_machine.specs.LexemeSort.{AliasSign, AnchorSign, TagSign, BlockSign, QuoteSign, StrayMark, NoSign}
 use Rattle.granit_machine.specs.LexemeSort.{PlainSign, LexemeSort, TextEnd, StartMark, EndMark, Unprintable}
 use Rattle.granit_machine.specs.LexemeSort.{DirectiveSign, Placed}
-use Rattle.granit_reading.proofs.Counting.{place_index}
+use Rattle.granit_places.proofs.Counting.{place_index}
 use Rattle.granit_reading.proofs.ReadAnswers.{by_answers, read_answers}
 use Rattle.granit_reading.proofs.ReadingLaw.{stops_there}
-use Rattle.granit_reading.proofs.Signs.{gap_text}
+use Rattle.granit_places.proofs.Signs.{gap_text}
 use Rattle.granit_reading.proofs.SortAnswers.{sort_answers}
 use Rattle.granit_machine.specs.Reader.{is_end, lexeme_by, lexeme}
 use Rattle.granit_machine.specs.ReaderState.{ReaderState}

@@ -1,10 +1,3 @@
-pub mod Quiet
 pub mod RisingColumns
 pub mod RisingKeys
 pub mod EventPlaces
-pub mod Offsets
-pub mod CommentEvents
-pub mod RefusedRows
-pub mod Placements
-pub mod CommentPlaces
-pub mod Lending

@@ -8,14 +8,14 @@ use Rattle.granit_base.specs.declared.style.ScalarStyle.TheVariants.{DoubleQuote
 use Rattle.granit_error.specs.OptionsData.{OptionsData, default_options}
 use Rattle.granit_json.proofs.Laws.{json_answered}
 use Rattle.granit_json.proofs.Telling.{text_told}
-use Rattle.granit_json.specs.Json.{AfterElements, AfterMembers, Array, Bare, Elements, Json, Members, NoElement}
-use Rattle.granit_json.specs.Json.{NoMember, Object, Text, json_depth}
-use Rattle.granit_json.specs.JsonEvents.{json_events}
+use Rattle.granit_json_scalars.specs.Json.{AfterElements, AfterMembers, Array, Bare, Elements, Json, Members, NoElement}
+use Rattle.granit_json_scalars.specs.Json.{NoMember, Object, Text, json_depth}
+use Rattle.granit_json_scalars.specs.JsonEvents.{json_events}
 use Rattle.granit_json.specs.JsonKinds.{element_kinds, json_kinds, member_kinds, unlent_kinds, value_kinds}
-use Rattle.granit_json.specs.JsonText.{ElementNamesFit, ElementsText, JsonText, MemberNamesFit, MemberText, MembersText}
-use Rattle.granit_json.specs.JsonText.{NameFits, NamesFit, PartText, ValueNamesFit, ValueText, bare, elements, member}
-use Rattle.granit_json.specs.JsonText.{members, next_element, next_member, no_elements, no_members, one_element}
-use Rattle.granit_json.specs.JsonText.{one_member, part, text}
+use Rattle.granit_json_scalars.specs.JsonText.{ElementNamesFit, ElementsText, JsonText, MemberNamesFit, MemberText, MembersText}
+use Rattle.granit_json_scalars.specs.JsonText.{NameFits, NamesFit, PartText, ValueNamesFit, ValueText, bare, elements, member}
+use Rattle.granit_json_scalars.specs.JsonText.{members, next_element, next_member, no_elements, no_members, one_element}
+use Rattle.granit_json_scalars.specs.JsonText.{one_member, part, text}
 use Rattle.granit_lexemes.specs.Basics.{owned}
 use Rattle.granit_lexemes.specs.Gap.{Each}
 use Rattle.granit_lexemes.specs.PlainEvent.{DocumentEnd, EventKind, MappingEnd, MappingStart, Scalar}

@@ -2,15 +2,15 @@
 use Rattle.std.proofs.Common.{List, ap, arith, subst, sym, true, ℕ, ◌++◌, ◌∙◌, ◌∷◌, ◌≡◌}
 use Rattle.std.proofs.lemmas.Bool.Decides.{nat_tests}
 use Rattle.granit_base.specs.Classes.{is_blank, is_break, is_digit, is_gap}
-use Rattle.granit_canonical.proofs.Nodes.{opener_starts, quote_starts}
-use Rattle.granit_canonical.proofs.Places.{Starts}
-use Rattle.granit_json.proofs.Bares.{Sound, is_bare_start, sound}
-use Rattle.granit_json.proofs.Gaps.{whites_gap}
+use Rattle.granit_canonical_steps.proofs.Nodes.{opener_starts, quote_starts}
+use Rattle.granit_canonical_steps.proofs.Places.{Starts}
+use Rattle.granit_json_scalars.proofs.Bares.{Sound, is_bare_start, sound}
+use Rattle.granit_json_scalars.proofs.Gaps.{whites_gap}
 use Rattle.granit_json.proofs.Nodes.{Front}
-use Rattle.granit_json.specs.Json.{Elements, Json, Members}
-use Rattle.granit_json.specs.JsonText.{ElementsText, MemberText, MembersText, PartText, ValueText, bare, elements}
-use Rattle.granit_json.specs.JsonText.{member, members, next_element, next_member, no_elements, no_members, one_element}
-use Rattle.granit_json.specs.JsonText.{one_member, part, text}
+use Rattle.granit_json_scalars.specs.Json.{Elements, Json, Members}
+use Rattle.granit_json_scalars.specs.JsonText.{ElementsText, MemberText, MembersText, PartText, ValueText, bare, elements}
+use Rattle.granit_json_scalars.specs.JsonText.{member, members, next_element, next_member, no_elements, no_members, one_element}
+use Rattle.granit_json_scalars.specs.JsonText.{one_member, part, text}
 use Rattle.granit_lexemes.specs.declared.layout.Bracket.TheVariants.{Curly, Square}
 
 start_starts : (c : ℕ) (rest : List ℕ) → is_bare_start c ≡ true → Starts (c ∷ rest)

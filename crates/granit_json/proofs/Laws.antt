@@ -8,13 +8,13 @@ use Rattle.granit_answers.proofs.OneCause.{answer_reads, reading_answered, unask
 use Rattle.granit_base.specs.Classes.{is_printable}
 use Rattle.granit_canonical.proofs.Laws.{BareItem, BareItems, no_row_too_long, all_others, lex_same}
 use Rattle.granit_error.specs.OptionsData.{OptionsData}
-use Rattle.granit_invariants.specs.CommentEvents.{comment_events, item_events, tail_events}
-use Rattle.granit_invariants.specs.Quiet.{but_comments}
-use Rattle.granit_json.proofs.Passing.{Flags, flagged_is, flagged_of, flags_name, items_of, no_flag, unflagged}
+use Rattle.granit_quiet.specs.CommentEvents.{comment_events, item_events, tail_events}
+use Rattle.granit_quiet.specs.Quiet.{but_comments}
+use Rattle.granit_json_scalars.proofs.Passing.{Flags, flagged_is, flagged_of, flags_name, items_of, no_flag, unflagged}
 use Rattle.granit_json.proofs.Whole.{TextRead, text_read}
-use Rattle.granit_json.specs.Json.{Json, json_depth}
-use Rattle.granit_json.specs.JsonEvents.{json_events}
-use Rattle.granit_json.specs.JsonText.{JsonText, NamesFit}
+use Rattle.granit_json_scalars.specs.Json.{Json, json_depth}
+use Rattle.granit_json_scalars.specs.JsonEvents.{json_events}
+use Rattle.granit_json_scalars.specs.JsonText.{JsonText, NamesFit}
 use Rattle.granit_language.specs.Seen.{Flagged}
 use Rattle.granit_language.specs.TextFault.{NoneTold}
 use Rattle.granit_lexemes.specs.Comment.{CommentRead}

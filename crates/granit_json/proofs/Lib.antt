@@ -1,13 +1,3 @@
-pub mod Gaps
-pub mod Strings
-pub mod Bares
-pub mod Plains
-pub mod Open
-pub mod Quoted
-pub mod Named
-pub mod Marks
-pub mod Keys
-pub mod Passing
 pub mod Nodes
 pub mod Fronts
 pub mod Values

@@ -9,16 +9,16 @@ use Rattle.std.specs.Prelude.{None}
 use Rattle.granit_base.specs.Place.{Mark}
 use Rattle.granit_base.specs.Written.{Written}
 use Rattle.granit_base.specs.declared.style.ScalarStyle.{ScalarStyle}
-use Rattle.granit_canonical.proofs.Calm.{Calm, Fine, fine_as}
-use Rattle.granit_canonical.proofs.Nodes.{closer_starts, opener_starts}
-use Rattle.granit_canonical.proofs.Passing.{IsPlain, plain_fits}
-use Rattle.granit_canonical.proofs.Places.{Before, Starts}
-use Rattle.granit_canonical.proofs.Taking.{OneRead, reads_one}
-use Rattle.granit_canonical.specs.Canonical.{spot, stretch}
+use Rattle.granit_canonical_steps.proofs.Calm.{Calm, Fine, fine_as}
+use Rattle.granit_canonical_steps.proofs.Nodes.{closer_starts, opener_starts}
+use Rattle.granit_canonical_steps.proofs.Passing.{IsPlain, plain_fits}
+use Rattle.granit_canonical_steps.proofs.Places.{Before, Starts}
+use Rattle.granit_canonical_steps.proofs.Taking.{OneRead, reads_one}
+use Rattle.granit_canonical_steps.specs.Canonical.{spot, stretch}
 use Rattle.granit_error.specs.OptionsData.{OptionsData}
-use Rattle.granit_json.proofs.Marks.{takes_closer, takes_opener}
-use Rattle.granit_json.proofs.Passing.{Passage, passage_none, passage_one, passage_then}
-use Rattle.granit_json.specs.JsonEvents.{array_start, object_start, scalar_of}
+use Rattle.granit_json_scalars.proofs.Marks.{takes_closer, takes_opener}
+use Rattle.granit_json_scalars.proofs.Passing.{Passage, passage_none, passage_one, passage_then}
+use Rattle.granit_json_scalars.specs.JsonEvents.{array_start, object_start, scalar_of}
 use Rattle.granit_language.specs.Node.{FlowLast, FlowLead, NoItem, NoLast, NoProperties, Node, ScalarNode}
 use Rattle.granit_language.specs.Placed.{FlowPlaced, LastPlaced, Placed}
 use Rattle.granit_language.specs.Room.{Room}

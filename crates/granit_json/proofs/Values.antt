@@ -8,30 +8,30 @@ use Rattle.granit_base.specs.Classes.{is_printable}
 use Rattle.granit_base.specs.Place.{Mark}
 use Rattle.granit_base.specs.Written.{lent}
 use Rattle.granit_base.specs.declared.style.ScalarStyle.TheVariants.{DoubleQuoted, Plain}
-use Rattle.granit_canonical.proofs.Calm.{Calm, Fine, fine_as}
-use Rattle.granit_canonical.proofs.Nodes.{closer_starts, comma_starts, quote_starts}
-use Rattle.granit_canonical.proofs.Passing.{plain_inside, plain_item}
-use Rattle.granit_canonical.proofs.Places.{Before}
-use Rattle.granit_canonical.proofs.Taking.{reads_one}
+use Rattle.granit_canonical_steps.proofs.Calm.{Calm, Fine, fine_as}
+use Rattle.granit_canonical_steps.proofs.Nodes.{closer_starts, comma_starts, quote_starts}
+use Rattle.granit_canonical_steps.proofs.Passing.{plain_inside, plain_item}
+use Rattle.granit_canonical_steps.proofs.Places.{Before}
+use Rattle.granit_canonical_steps.proofs.Taking.{reads_one}
 use Rattle.granit_canonical.proofs.Trees.{most_both}
-use Rattle.granit_canonical.specs.Canonical.{spot, stretch}
+use Rattle.granit_canonical_steps.specs.Canonical.{spot, stretch}
 use Rattle.granit_error.specs.OptionsData.{OptionsData}
-use Rattle.granit_json.proofs.Bares.{sound}
+use Rattle.granit_json_scalars.proofs.Bares.{sound}
 use Rattle.granit_json.proofs.Fronts.{element_front, member_front, members_front, part_front, sound_starts}
-use Rattle.granit_json.proofs.Gaps.{Ends, at_sign, ends_start, whites_gap}
-use Rattle.granit_json.proofs.Keys.{reads_colon, reads_name}
-use Rattle.granit_json.proofs.Marks.{takes_comma}
+use Rattle.granit_json_scalars.proofs.Gaps.{Ends, at_sign, ends_start, whites_gap}
+use Rattle.granit_json_scalars.proofs.Keys.{reads_colon, reads_name}
+use Rattle.granit_json_scalars.proofs.Marks.{takes_comma}
 use Rattle.granit_json.proofs.Nodes.{Front, NodeRead, flow_read, no_contents, scalar_read, scalar_told}
-use Rattle.granit_json.proofs.Passing.{Passage, passage_name, passage_one, passage_then}
-use Rattle.granit_json.proofs.Plains.{takes_bare}
-use Rattle.granit_json.proofs.Quoted.{takes_string}
-use Rattle.granit_json.specs.Json.{Elements, Json, Members, elements_depth, json_depth, members_depth}
-use Rattle.granit_json.specs.JsonEvents.{element_events, first_source, member_events, members_events, part_events}
-use Rattle.granit_json.specs.JsonEvents.{scalar_of, string_text, value_events}
-use Rattle.granit_json.specs.JsonText.{ElementNamesFit, ElementsText, MemberNamesFit, MemberText, MembersText, NameFits}
-use Rattle.granit_json.specs.JsonText.{NamesFit, PartText, ValueNamesFit, ValueText, bare, elements, member, members}
-use Rattle.granit_json.specs.JsonText.{next_element, next_member, no_elements, no_members, one_element, one_member}
-use Rattle.granit_json.specs.JsonText.{part, text}
+use Rattle.granit_json_scalars.proofs.Passing.{Passage, passage_name, passage_one, passage_then}
+use Rattle.granit_json_scalars.proofs.Plains.{takes_bare}
+use Rattle.granit_json_scalars.proofs.Quoted.{takes_string}
+use Rattle.granit_json_scalars.specs.Json.{Elements, Json, Members, elements_depth, json_depth, members_depth}
+use Rattle.granit_json_scalars.specs.JsonEvents.{element_events, first_source, member_events, members_events, part_events}
+use Rattle.granit_json_scalars.specs.JsonEvents.{scalar_of, string_text, value_events}
+use Rattle.granit_json_scalars.specs.JsonText.{ElementNamesFit, ElementsText, MemberNamesFit, MemberText, MembersText, NameFits}
+use Rattle.granit_json_scalars.specs.JsonText.{NamesFit, PartText, ValueNamesFit, ValueText, bare, elements, member, members}
+use Rattle.granit_json_scalars.specs.JsonText.{next_element, next_member, no_elements, no_members, one_element, one_member}
+use Rattle.granit_json_scalars.specs.JsonText.{part, text}
 use Rattle.granit_language.specs.Node.{AfterItem, FlowLead, Just, LastItem, NoItem, NoProperties, Node, Pair, Paired}
 use Rattle.granit_language.specs.Node.{ScalarNode, SimpleKey, Single, WithColon}
 use Rattle.granit_language.specs.Placed.{FlowPlaced, PairPlaced, Placed}
@@ -53,7 +53,7 @@ use Rattle.granit_lexemes.specs.declared.layout.Bracket.TheVariants.{Curly, Squa
 use Rattle.granit_machine.specs.Laid.{is_opener}
 use Rattle.granit_machine.specs.ReaderState.{ReaderState}
 use Rattle.granit_machine.specs.PossibleKeys.{start_of_key}
-use Rattle.granit_scalars.proofs.QuotedFolding.{each_behind, each_front}
+use Rattle.granit_quoted_laws.proofs.QuotedFolding.{each_behind, each_front}
 
 each_left : (test : ℕ → Bool) (i : ℕ) (x : List ℕ) → Each test x → Each test (drop i x)
 each_left test zero x e = e

@@ -6,20 +6,20 @@ use Rattle.std.proofs.Common.{◌++◌, ◌∙◌, ◌∷◌, ◌≡◌, ◌≤�
 use Rattle.std.specs.Prelude.{None}
 use Rattle.granit_base.specs.Classes.{is_printable}
 use Rattle.granit_base.specs.Place.{Mark}
-use Rattle.granit_canonical.proofs.Calm.{Calm, calm_start}
-use Rattle.granit_canonical.proofs.Marks.{takes_end}
-use Rattle.granit_canonical.proofs.Passing.{means_append, plain_root}
-use Rattle.granit_canonical.proofs.Places.{Before, Held, starts_end, starts_held}
-use Rattle.granit_canonical.proofs.Taking.{Taken, reads_one}
-use Rattle.granit_canonical.specs.Canonical.{spot}
+use Rattle.granit_canonical_steps.proofs.Calm.{Calm, calm_start}
+use Rattle.granit_canonical_steps.proofs.Marks.{takes_end}
+use Rattle.granit_canonical_steps.proofs.Passing.{means_append, plain_root}
+use Rattle.granit_canonical_steps.proofs.Places.{Before, Held, starts_end, starts_held}
+use Rattle.granit_canonical_steps.proofs.Taking.{Taken, reads_one}
+use Rattle.granit_canonical_steps.specs.Canonical.{spot}
 use Rattle.granit_error.specs.OptionsData.{OptionsData}
-use Rattle.granit_json.proofs.Gaps.{at_end, whites_gap}
+use Rattle.granit_json_scalars.proofs.Gaps.{at_end, whites_gap}
 use Rattle.granit_json.proofs.Nodes.{NodeRead}
-use Rattle.granit_json.proofs.Passing.{Flags, items_of, lexed_flags, lexed_whole, seen, seen_append, terminals_are}
+use Rattle.granit_json_scalars.proofs.Passing.{Flags, items_of, lexed_flags, lexed_whole, seen, seen_append, terminals_are}
 use Rattle.granit_json.proofs.Values.{value_read}
-use Rattle.granit_json.specs.Json.{Json, json_depth}
-use Rattle.granit_json.specs.JsonEvents.{first_source, json_events, value_events}
-use Rattle.granit_json.specs.JsonText.{JsonText, NamesFit, part}
+use Rattle.granit_json_scalars.specs.Json.{Json, json_depth}
+use Rattle.granit_json_scalars.specs.JsonEvents.{first_source, json_events, value_events}
+use Rattle.granit_json_scalars.specs.JsonText.{JsonText, NamesFit, part}
 use Rattle.granit_language.proofs.Scopes.{scoped_append}
 use Rattle.granit_language.specs.Node.{BareRoot, Beginning, EndRooted}
 use Rattle.granit_language.specs.Reached.{ReadWhole}

@@ -1,9 +1,9 @@
 -- What is told of a JSON value, wherever its text stands.
 use Rattle.std.specs.Prelude.{false, List, [], ◌∷◌, map, None}
 use Rattle.granit_base.specs.declared.style.ScalarStyle.TheVariants.{DoubleQuoted, Plain}
-use Rattle.granit_json.specs.Json.{Json, Text, Bare, Array, Object, Elements, NoElement, AfterElements, Members}
-use Rattle.granit_json.specs.Json.{NoMember, AfterMembers}
-use Rattle.granit_json.specs.JsonEvents.{array_start, object_start, scalar_of}
+use Rattle.granit_json_scalars.specs.Json.{Json, Text, Bare, Array, Object, Elements, NoElement, AfterElements, Members}
+use Rattle.granit_json_scalars.specs.Json.{NoMember, AfterMembers}
+use Rattle.granit_json_scalars.specs.JsonEvents.{array_start, object_start, scalar_of}
 use Rattle.granit_lexemes.specs.Basics.{owned}
 use Rattle.granit_lexemes.specs.PlainEvent.{DocumentEnd, DocumentStart, EventKind, MappingEnd, PlainEvent, Scalar}
 use Rattle.granit_lexemes.specs.PlainEvent.{SequenceEnd, StreamEnd, StreamStart}

@@ -2,8 +2,8 @@
 ghost use Rattle.std.specs.Prelude.{◌++◌, ◌≡◌, codes};
 ghost use Rattle.granit_base.specs.Classes.{is_printable};
 ghost use Rattle.granit_json.specs.Examples.{empty_is, empty_text, json_lines, object_is, object_text, object_value};
-ghost use Rattle.granit_json.specs.Json.{json_depth};
-ghost use Rattle.granit_json.specs.JsonText.{NamesFit};
+ghost use Rattle.granit_json_scalars.specs.Json.{json_depth};
+ghost use Rattle.granit_json_scalars.specs.JsonText.{NamesFit};
 ghost use Rattle.granit_lexemes.specs.Gap.{Each};
 
 /// Texts whose parts stand where the original finds them, and that have what the law asks of a text.

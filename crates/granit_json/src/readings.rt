@@ -2,10 +2,10 @@
 ghost use Rattle.std.specs.Prelude.{◌≡◌, ◌≤◌, ℕ, List, Ok};
 ghost use Rattle.granit_base.specs.Classes.{is_printable};
 ghost use Rattle.granit_error.specs.OptionsData.{OptionsData};
-ghost use Rattle.granit_json.specs.Json.{Json, json_depth};
-ghost use Rattle.granit_json.specs.JsonEvents.{json_events};
+ghost use Rattle.granit_json_scalars.specs.Json.{Json, json_depth};
+ghost use Rattle.granit_json_scalars.specs.JsonEvents.{json_events};
 ghost use Rattle.granit_json.specs.JsonKinds.{json_kinds, unlent_kinds};
-ghost use Rattle.granit_json.specs.JsonText.{JsonText, NamesFit};
+ghost use Rattle.granit_json_scalars.specs.JsonText.{JsonText, NamesFit};
 ghost use Rattle.granit_lexemes.specs.Gap.{Each};
 ghost use Rattle.granit_machine.specs.Machine.{run};
 

@@ -5,13 +5,13 @@ use Rattle.std.specs.Prelude.{IfOk, IfErr}
 use Rattle.granit_answers.proofs.CommentsCaused.{any_fault_caused}
 use Rattle.granit_answers.proofs.OneCause.{answer_reads, cause_answered, reading_answered}
 use Rattle.granit_base.specs.Classes.{is_printable}
-use Rattle.granit_before.specs.DeclaredCause.{DeclaredCause}
-use Rattle.granit_before.specs.DeclaredReading.{DeclaredReading}
-use Rattle.granit_before.proofs.CauseSaid.{cause_declared, declared_cause}
-use Rattle.granit_before.proofs.ReadingSaid.{answer_declared, declared_answer}
+use Rattle.granit_declared.specs.DeclaredCause.{DeclaredCause}
+use Rattle.granit_declared.specs.DeclaredReading.{DeclaredReading}
+use Rattle.granit_declared.proofs.CauseSaid.{cause_declared, declared_cause}
+use Rattle.granit_declared.proofs.ReadingSaid.{answer_declared, declared_answer}
 use Rattle.granit_block_layout.specs.Alike.{kinds_of}
 use Rattle.granit_block_layout.proofs.Laws.{block_is_read}
-use Rattle.granit_canonical.specs.Canonical.{canonical_events}
+use Rattle.granit_canonical_steps.specs.Canonical.{canonical_events}
 use Rattle.granit_canonical.proofs.Laws.{canonical_is_read}
 use Rattle.granit_comments.specs.TextComments.{TellsComments, ToldUnasked}
 use Rattle.granit_comments.proofs.Told.{comments_told}
@@ -22,11 +22,11 @@ use Rattle.granit_error.specs.Refused.{Refused}
 use Rattle.granit_generator.specs.BlockText.{block_characters}
 use Rattle.granit_input.specs.Origin.{Origin}
 use Rattle.granit_invariants.specs.EventPlaces.{EventsInText}
-use Rattle.granit_invariants.specs.Quiet.{but_comments}
+use Rattle.granit_quiet.specs.Quiet.{but_comments}
 use Rattle.granit_invariants.proofs.SpanLaw.{events_in_text}
-use Rattle.granit_json.specs.Json.{Json, json_depth}
-use Rattle.granit_json.specs.JsonEvents.{json_events}
-use Rattle.granit_json.specs.JsonText.{JsonText, NamesFit}
+use Rattle.granit_json_scalars.specs.Json.{Json, json_depth}
+use Rattle.granit_json_scalars.specs.JsonEvents.{json_events}
+use Rattle.granit_json_scalars.specs.JsonText.{JsonText, NamesFit}
 use Rattle.granit_json.proofs.Laws.{json_answered}
 use Rattle.granit_lexemes.specs.Gap.{Each}
 use Rattle.granit_lexemes.specs.Outcome.{Fault, Fails, GivesValue}
@@ -38,7 +38,7 @@ use Rattle.granit_model.specs.Tree.{DocumentsFit, PlainTrees, trees_depth}
 use Rattle.granit_load.specs.Answering.{GivesAllOr, IsRefusedAs}
 use Rattle.granit_load.proofs.GatherLemmas.{never_failed, never_numbered}
 use Rattle.granit_parser.proofs.TextLemmas.{memory_or_not}
-use Rattle.granit_reading.proofs.ParserSources.{run_none}
+use Rattle.granit_read_answers.proofs.ParserSources.{run_none}
 use Rattle.granit_readings.specs.ReadAsTrees.{TellsTrees}
 use Rattle.granit_readings.proofs.ReadOnce.{answer_trees}
 use Rattle.granit_parser.specs.Parsing.{Stepping}
@@ -46,7 +46,7 @@ use Rattle.granit_steps.specs.Levels.{IsStream}
 use Rattle.granit_steps.specs.Steps.{steps_start}
 use Rattle.granit_steps.specs.Told.{GivesEvents}
 use Rattle.granit_steps.proofs.StepLaws.{steps_give}
-use Rattle.granit_steps.proofs.StreamLaws.{run_is_stream}
+use Rattle.granit_streams.proofs.StreamLaws.{run_is_stream}
 
 same_fault : (f g : Fault) → ◌≡◌ {A = Result (List PlainEvent) Fault} (Err f) (Err g) → f ≡ g
 same_fault f g e = cc

@@ -9,7 +9,7 @@ use Rattle.granit_error.specs.OptionsData.{OptionsData}
 use Rattle.granit_error.specs.Refused.{Refused}
 use Rattle.granit_error.specs.declared.kind.ErrorKind.{ErrorKind}
 use Rattle.granit_input.specs.Origin.{Origin}
-use Rattle.granit_invariants.proofs.BareRun.{run_bare}
+use Rattle.granit_offsets.proofs.BareRun.{run_bare}
 use Rattle.granit_lexemes.specs.Here.{Here, start_of}
 use Rattle.granit_lexemes.specs.Onward.{Onward}
 use Rattle.granit_lexemes.specs.Outcome.{Fault, Fails, GivesValue}

@@ -9,7 +9,7 @@ use Rattle.granit_error.specs.OptionsData.{OptionsData}
 use Rattle.granit_error.specs.Refused.{Refused}
 use Rattle.granit_error.specs.declared.kind.ErrorKind.{ErrorKind}
 use Rattle.granit_input.specs.Origin.{Origin}
-use Rattle.granit_invariants.specs.Offsets.{bare_answer}
+use Rattle.granit_feeding.specs.Offsets.{bare_answer}
 use Rattle.granit_lexemes.specs.Here.{Here}
 use Rattle.granit_lexemes.specs.Onward.{Onward}
 use Rattle.granit_lexemes.specs.Outcome.{Fault, Fails}

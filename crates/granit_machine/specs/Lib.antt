@@ -27,4 +27,3 @@ pub mod ReaderState
 pub mod StreamLexemes
 pub mod StreamSteps
 pub mod TokenSort
-pub mod LongTexts

@@ -10,8 +10,8 @@ use Rattle.granit_lexemes.specs.PlainEvent.{PlainEvent}
 use Rattle.granit_parser.proofs.TextLemmas.{given_behind, leads_front, leads_more, memory_or_not}
 use Rattle.granit_parser.specs.Alone.{BeginsAlone, CausedAlone, EndsAlone}
 use Rattle.granit_parser.specs.Parsing.{Next, LeadsTo}
-use Rattle.granit_shifted.proofs.ToldOnce.{told_alone}
-use Rattle.granit_shifted.specs.Alone.{TellsMoved, behind_first}
+use Rattle.granit_led.proofs.ToldOnce.{told_alone}
+use Rattle.granit_led.specs.Alone.{TellsMoved, behind_first}
 use Rattle.granit_shifted.specs.Shift.{Shift, moved_events, moved_fault_of}
 use Rattle.granit_sourced.specs.Giving.{GivesNext}
 use Rattle.granit_steps.specs.Steps.{StepState, next_event}

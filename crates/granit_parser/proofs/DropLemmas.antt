@@ -21,7 +21,7 @@ use Rattle.granit_parser.specs.Recovering.{comes_dropping, comes_here, comes_see
 use Rattle.granit_parser.specs.Recovering.{comes_behind, comes_ended, seen_comment, seen_in, seen_other}
 use Rattle.granit_seen.specs.Seeing.{seen_kind}
 use Rattle.granit_seen.specs.declared.seen.Seen.TheVariants as seens
-use Rattle.granit_recovery.specs.Asking.{LookTells}
+use Rattle.granit_calls.specs.Asking.{LookTells}
 use Rattle.granit_recovery.specs.Streams.{ReachedByCalls, reached_call, reached_recovery}
 use Rattle.granit_restart.proofs.AheadLaws.{skip_alike}
 use Rattle.granit_restart.specs.Ahead.{AheadOf, NoneComes, is_note, not_ahead}

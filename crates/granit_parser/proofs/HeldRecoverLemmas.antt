@@ -17,7 +17,7 @@ use Rattle.granit_parser.specs.Parsing.{Next, Parsing}
 use Rattle.granit_parser.specs.Recovering.{AsksBy, IsOpen, SkipsToAsk, SkipsWaiting, failed_in, seen_in, stays_by}
 use Rattle.granit_seen.specs.Seeing.{seen_ends_document, seen_kind, seen_starts_document}
 use Rattle.granit_seen.specs.declared.seen.Seen.TheVariants as seens
-use Rattle.granit_recovery.specs.Asking.{LookTells}
+use Rattle.granit_calls.specs.Asking.{LookTells}
 use Rattle.granit_recovery.specs.Streams.{ReachedByCalls, reached_call, reached_counting, reached_keeping}
 use Rattle.granit_recovery.specs.Streams.{reached_recovery}
 use Rattle.granit_restart.proofs.AheadLaws.{waits_next}

@@ -20,7 +20,7 @@ use Rattle.granit_receivers.specs.Kept.{IsKept}
 use Rattle.granit_seen.specs.Seeing.{seen_kind, seen_starts_document}
 use Rattle.granit_seen.specs.declared.seen.Seen.{Seen}
 use Rattle.granit_seen.specs.declared.seen.Seen.TheVariants as seens
-use Rattle.granit_recovery.specs.Asking.{LookTells}
+use Rattle.granit_calls.specs.Asking.{LookTells}
 use Rattle.granit_recovery.specs.Streams.{EarlyOf, ReachedByCalls}
 use Rattle.granit_restart.specs.Ahead.{AheadOf, is_note}
 use Rattle.granit_restart.specs.Calls.{Calls, next_call, noted}

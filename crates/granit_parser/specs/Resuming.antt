@@ -15,7 +15,7 @@ use Rattle.granit_restart.specs.Ahead.{AheadOf}
 use Rattle.granit_restart.specs.Calls.{Calls, next_call}
 use Rattle.granit_restart.specs.Recovery.{recover}
 use Rattle.granit_restart.specs.Skipping.{Stops}
-use Rattle.granit_shifted.specs.Stopping.{FaultFits}
+use Rattle.granit_led.specs.Stopping.{FaultFits}
 use Rattle.granit_stepper.specs.Numbers.{RefusesNumber}
 use Rattle.granit_steps.specs.Steps.{StepState}
 

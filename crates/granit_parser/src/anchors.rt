@@ -13,7 +13,7 @@ ghost use Rattle.granit_steps.specs.Steps.{StepState};
 
 use crate::parser::Parser;
 use granit_input::BorrowedInput;
-use granit_recovery::calls_go_by_turns;
+use granit_calls::calls_go_by_turns;
 
 impl<'input, T: BorrowedInput<'input>> Parser<'input, T> {
     /// The number that the next anchor gets, held at the greatest one.

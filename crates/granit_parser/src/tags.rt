@@ -10,7 +10,7 @@ ghost use Rattle.granit_steps.specs.Steps.{StepState};
 
 use crate::parser::Parser;
 use granit_input::BorrowedInput;
-use granit_recovery::calls_go_by_turns;
+use granit_calls::calls_go_by_turns;
 
 impl<'input, T: BorrowedInput<'input>> Parser<'input, T> {
     /// Whether the handles of `%TAG` but `!` and `!!` stay over documents: sets the option `keep_tags` of this parser.

@@ -19,8 +19,8 @@ use Rattle.granit_lexemes.specs.Here.{Here, text_len}
 use Rattle.granit_recovery.specs.Streams.{calls_from, ReachedByCalls, reached_start}
 use Rattle.granit_restart.specs.Calls.{Calls, next_call}
 use Rattle.granit_restart.specs.Recovery.{resumed}
-use Rattle.granit_shifted.specs.Led.{Led}
-use Rattle.granit_shifted.specs.Stopping.{looked_at}
+use Rattle.granit_led.specs.Led.{Led}
+use Rattle.granit_led.specs.Stopping.{looked_at}
 use Rattle.granit_steps.specs.Steps.{start_from}
 
 -- each open call that calls lead to gives something

@@ -27,7 +27,7 @@ use Rattle.granit_restart.specs.Ahead.{AheadOf}
 use Rattle.granit_restart.specs.Calls.{Calls, failing, given_by, GivenByCall, next_call}
 use Rattle.granit_restart.specs.Recovery.{recover, resumed}
 use Rattle.granit_restart.specs.Skipping.{Stops}
-use Rattle.granit_shifted.specs.Stopping.{FitBehind, looked_at}
+use Rattle.granit_led.specs.Stopping.{FitBehind, looked_at}
 use Rattle.granit_sourced.proofs.CallLemmas.{call_going}
 use Rattle.granit_sourced.specs.Going.{FailsAt}
 use Rattle.granit_sourced.specs.Sources.{TellsSource}

@@ -18,7 +18,7 @@ use Rattle.granit_restart.specs.Calls.{Calls, given_by, GivenByCall, next_call, 
 use Rattle.granit_restart.specs.Recovery.{looked_by}
 use Rattle.granit_restart.specs.Restart.{behind_fault}
 use Rattle.granit_restart.specs.Skipping.{Ended, Failed, skip_by_turns, SkipEnd, Stops}
-use Rattle.granit_shifted.specs.Stopping.{DropFits, EndFits, FitBehind, looked_at, StopsFit}
+use Rattle.granit_led.specs.Stopping.{DropFits, EndFits, FitBehind, looked_at, StopsFit}
 use Rattle.granit_sourced.proofs.CallLemmas.{call_going}
 use Rattle.granit_stepper.specs.Recovering.{StopsBehind}
 use Rattle.granit_stepper.specs.Stepping.{Stepping}

@@ -12,10 +12,10 @@ ghost use Rattle.granit_parser_laws.specs.Again.{TellsAgain, ToldIn};
 ghost use Rattle.granit_recovery.specs.Streams.{ReachedByCalls, calls_from};
 ghost use Rattle.granit_restart.specs.Calls.{Calls};
 ghost use Rattle.granit_restart.specs.Skipping.{Stops};
-ghost use Rattle.granit_shifted.specs.Stopping.{FitBehind, looked_at};
+ghost use Rattle.granit_led.specs.Stopping.{FitBehind, looked_at};
 
 use granit_input::BorrowedInput;
-use granit_recovery::an_open_call_gives_something;
+use granit_calls::an_open_call_gives_something;
 
 /// Where calls led and recovery wasn't refused, the places at which refused reads stopped, as `proceed_next_document`
 /// tells them, are what the laws on recovery ask for, whether the next event was looked at or not.

@@ -15,8 +15,8 @@ use Rattle.granit_lexemes.specs.Moves.{past_prefix_mark}
 use Rattle.granit_lexemes.specs.Outcome.{◌>>=◌}
 use Rattle.granit_lexemes.proofs.HereLemmas.{past_goes, past_stops}
 use Rattle.granit_scalars.proofs.Comments.{comment_answered}
-use Rattle.granit_machine.proofs.LengthLemmas.{step-less}
-use Rattle.granit_machine.proofs.ReadLengths.{past_prefix_mark-less}
+use Rattle.granit_termination.proofs.LengthLemmas.{step-less}
+use Rattle.granit_termination.proofs.ReadLengths.{past_prefix_mark-less}
 use Rattle.granit_machine.specs.Gaps.{leading_tab, refuse_tab_at, refuse_tab, at_prefix_mark, begins_gap, over_gap_char}
 use Rattle.granit_machine.specs.Gaps.{skip_gap, past_gap, goes_on_behind, refuse_cut_by, over_break_if, behind_note}
 use Rattle.granit_machine.specs.Gaps.{behind_gap, noted_gap, ready_gap, gap_ends, takes_prefix, gap}

@@ -23,8 +23,8 @@ use Rattle.granit_lexemes.specs.Gap.{Each}
 use Rattle.granit_scalars.proofs.Comments.{comment_reads}
 use Rattle.granit_blocks.proofs.BlockHeads.{TailWrong, touches, spoils, TailReads, tail_reads}
 use Rattle.granit_blocks.proofs.Moving.{past_reads}
-use Rattle.granit_machine.proofs.LengthLemmas.{step-less}
-use Rattle.granit_machine.proofs.ReadLengths.{past_prefix_mark-less}
+use Rattle.granit_termination.proofs.LengthLemmas.{step-less}
+use Rattle.granit_termination.proofs.ReadLengths.{past_prefix_mark-less}
 use Rattle.granit_machine.specs.Gaps.{leading_tab, refuse_tab_at, refuse_tab, at_prefix_mark, begins_gap, skip_gap}
 use Rattle.granit_machine.specs.Gaps.{past_gap, goes_on_behind, refuse_cut_by, noted_gap, ready_gap, gap_ends}
 use Rattle.granit_machine.specs.Gaps.{takes_prefix, gap}

@@ -23,7 +23,7 @@ use Rattle.granit_lexemes.specs.QuotedScalar.{quoted_scalar}
 use Rattle.granit_lexemes.specs.Tail.{tail_at}
 use Rattle.granit_scalars.proofs.Comments.{comment_answered}
 use Rattle.granit_scalars.proofs.PlainOnce.{is_answered}
-use Rattle.granit_scalars.proofs.QuotedOnce.{quoted_is_answered}
+use Rattle.granit_quoted_laws.proofs.QuotedOnce.{quoted_is_answered}
 use Rattle.granit_blocks.proofs.BlockHeads.{tail_is}
 use Rattle.granit_blocks.proofs.BlockLaw.{block_is_answered}
 use Rattle.granit_names.proofs.NameLaw.{name_is}

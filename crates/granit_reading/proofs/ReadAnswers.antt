@@ -11,7 +11,7 @@ use Rattle.granit_lexemes.specs.Lexeme.{Lexeme, Item, OfLexeme}
 use Rattle.granit_lexemes.specs.Outcome.{Fault, ◌>>=◌}
 use Rattle.granit_lexemes.specs.Pieces.{with_front, pieces}
 use Rattle.granit_lexemes.proofs.PieceLemmas.{pieces_more}
-use Rattle.granit_names.proofs.LineLaw.{whole_is}
+use Rattle.granit_directive_laws.proofs.LineLaw.{whole_is}
 use Rattle.granit_machine.specs.Columns.{closed_at, closed_all, ends_at, ends_all}
 use Rattle.granit_machine.specs.Laid.{Laid, is_in_flow, is_adjacent, innermost_column, block_column}
 use Rattle.granit_lexemes.specs.declared.layout.PossibleKey.{PossibleKey}
@@ -25,7 +25,7 @@ use Rattle.granit_machine.specs.Reader.{is_strict_outside, lexeme_in_column, lex
 use Rattle.granit_machine.specs.Reader.{LexState, is_end, behind_read, lex_turn, lex_len}
 use Rattle.granit_machine.specs.ReaderState.{ReaderState, Read, reader_start, refuse_open}
 use Rattle.granit_machine.specs.StreamLexemes.{text_end, start_mark, end_mark_up_to, end_mark, directive_lexeme}
-use Rattle.granit_machine.proofs.LexLengths.{lex_turn-Shortens}
+use Rattle.granit_termination.proofs.LexLengths.{lex_turn-Shortens}
 use Rattle.granit_language.specs.Before.{freshened, with_run}
 use Rattle.granit_language.specs.Reached.{NoneOverdue, StandsInside, GivenAt, Reads, of_comment, of_lexeme, Reached}
 use Rattle.granit_language.specs.Reached.{stops, goes_on, GoesOnTo}

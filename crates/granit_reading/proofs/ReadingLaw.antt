@@ -33,7 +33,7 @@ use Rattle.granit_machine.specs.PossibleKeys.{is_stale, refuse_required, stale_k
 use Rattle.granit_machine.specs.Reader.{noded, lexeme_of, is_strict_outside, lexeme_in_column, lexeme_by, lexeme}
 use Rattle.granit_machine.specs.Reader.{read_behind, read_whole, read, LexState, is_end, behind_read, lex_turn, lex_len}
 use Rattle.granit_machine.specs.ReaderState.{ReaderState}
-use Rattle.granit_machine.proofs.LexLengths.{noded-flow, lex_turn-Shortens}
+use Rattle.granit_termination.proofs.LexLengths.{noded-flow, lex_turn-Shortens}
 use Rattle.granit_machine.proofs.SortLemmas.{plain_sign-content}
 use Rattle.granit_language.specs.Before.{freshened, with_run, in_front}
 use Rattle.granit_language.specs.Begins.{SignBegins, alias, anchor, tag, quote, Begins, directive, sign}

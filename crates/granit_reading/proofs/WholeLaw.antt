@@ -13,7 +13,7 @@ use Rattle.granit_scalars.proofs.Turning.{Carries, pieces_hold}
 use Rattle.granit_machine.specs.Lexing.{lex, lex_start}
 use Rattle.granit_machine.specs.Reader.{read, LexState, is_end, behind_read, lex_turn, lex_len}
 use Rattle.granit_machine.specs.ReaderState.{ReaderState, Read, reader_start}
-use Rattle.granit_machine.proofs.LexLengths.{lex_turn-Shortens, at_read}
+use Rattle.granit_termination.proofs.LexLengths.{lex_turn-Shortens, at_read}
 use Rattle.granit_language.specs.Reached.{Reads, ReadRefused, StopsThere, ReadWhole, whole_ends, whole_stops}
 use Rattle.granit_language.specs.Reached.{whole_goes_on}
 use Rattle.granit_reading.proofs.Answering.{Answers}

@@ -4,17 +4,17 @@ use Rattle.std.proofs.Common.{ap, ◌∙◌, subst}
 use Rattle.std.proofs.lemmas.List.{append-nil}
 use Rattle.granit_lexemes.proofs.PieceLemmas.{fault_none}
 use Rattle.granit_answers.proofs.OneCause.{answer_reads, reading_answered}
-use Rattle.granit_answers.specs.Answers.{AnswersReading}
-use Rattle.granit_before.proofs.CommentsSaid.{one_telling}
-use Rattle.granit_before.proofs.ReadingSaid.{answer_declared, flags_are}
-use Rattle.granit_before.specs.DeclaredReading.{DeclaredReading}
+use Rattle.granit_order.specs.Answers.{AnswersReading}
+use Rattle.granit_declared.proofs.CommentsSaid.{one_telling}
+use Rattle.granit_declared.proofs.ReadingSaid.{answer_declared, flags_are}
+use Rattle.granit_declared.specs.DeclaredReading.{DeclaredReading}
 use Rattle.granit_before.specs.KeyBegins.{items_of, FlagsSay}
 use Rattle.granit_before.specs.ToldComments.{CommentsTold}
 use Rattle.granit_error.specs.OptionsData.{OptionsData}
 use Rattle.granit_grammar.proofs.Complete.{one_stream}
 use Rattle.granit_grammar.proofs.Numbers.{stream_named}
-use Rattle.granit_invariants.specs.CommentEvents.{comment_events, only_comments}
-use Rattle.granit_invariants.specs.Quiet.{but_comments}
+use Rattle.granit_quiet.specs.CommentEvents.{comment_events, only_comments}
+use Rattle.granit_quiet.specs.Quiet.{but_comments}
 use Rattle.granit_language.specs.Node.{Stream}
 use Rattle.granit_language.specs.Placed.{StreamPlaced}
 use Rattle.granit_language.specs.Reached.{Reached, ReadWhole}

@@ -1,7 +1,7 @@
 -- What a text is read as: documents as trees, without their events.
 use Rattle.std.specs.Prelude.{◌≡◌, ℕ, true, List, [], map}
 use Rattle.granit_error.specs.OptionsData.{OptionsData}
-use Rattle.granit_invariants.specs.Quiet.{but_comments}
+use Rattle.granit_quiet.specs.Quiet.{but_comments}
 use Rattle.granit_language.specs.Node.{Stream}
 use Rattle.granit_language.specs.Reached.{ReadWhole}
 use Rattle.granit_language.specs.Reading.{IsReading}

@@ -1,9 +1,9 @@
 //! A text is read in one way at most, as trees and as events.
-ghost use Rattle.granit_answers.specs.Answers.{AnswersReading};
-ghost use Rattle.granit_before.specs.DeclaredReading.{DeclaredReading};
+ghost use Rattle.granit_order.specs.Answers.{AnswersReading};
+ghost use Rattle.granit_declared.specs.DeclaredReading.{DeclaredReading};
 ghost use Rattle.granit_error.specs.OptionsData.{OptionsData};
-ghost use Rattle.granit_invariants.specs.CommentEvents.{only_comments};
-ghost use Rattle.granit_invariants.specs.Quiet.{but_comments};
+ghost use Rattle.granit_quiet.specs.CommentEvents.{only_comments};
+ghost use Rattle.granit_quiet.specs.Quiet.{but_comments};
 ghost use Rattle.granit_language.specs.Node.{Stream};
 ghost use Rattle.granit_language.specs.Scoping.{Means};
 ghost use Rattle.granit_language.specs.Telling.{events_told};

@@ -4,7 +4,7 @@ use Rattle.granit_base.specs.Place.{Mark}
 use Rattle.granit_lexemes.specs.PlainEvent.{PlainEvent, EventKind, event_on, StreamStart, StreamEnd, DocumentStart}
 use Rattle.granit_lexemes.specs.PlainEvent.{DocumentEnd, Alias, UnresolvedAlias, Anchor, Comment, Scalar, SequenceStart}
 use Rattle.granit_lexemes.specs.PlainEvent.{SequenceEnd, MappingStart, MappingEnd}
-use Rattle.granit_steps.proofs.Nesting.{behind_append}
+use Rattle.granit_streams.proofs.Nesting.{behind_append}
 use Rattle.granit_steps.specs.Levels.{Level, InStream, BeforeNode, BehindNode, InSequence, InMapping, node_done}
 use Rattle.granit_steps.specs.Levels.{node_begun, sequence_ends, mapping_ends, document_begins, document_ends}
 use Rattle.granit_steps.specs.Levels.{stream_ends, behind_event, and_then, behind_events}

@@ -38,7 +38,7 @@ use Rattle.granit_recovery.proofs.SeatLaws.{end_top_fine, end_top_sits, IsOuter,
 use Rattle.granit_restart.specs.Header.{is_start_expected}
 use Rattle.granit_restart.specs.Skipping.{is_within_document}
 use Rattle.granit_scalars.proofs.Turning.{Carries, pieces_hold}
-use Rattle.granit_steps.proofs.Nesting.{Fine}
+use Rattle.granit_streams.proofs.Nesting.{Fine}
 
 abbrev pub end_token : Lexeme → Token
 end_token l = record { lexeme = l; sort = OfStream }

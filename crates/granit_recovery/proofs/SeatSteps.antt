@@ -5,9 +5,9 @@ use Rattle.std.proofs.Common.{sym, subst, ◌-◌, ◌++◌}
 use Rattle.std.specs.Prelude.{if◌then◌else◌}
 use Rattle.granit_error.specs.FaultKind.{TooManyComments}
 use Rattle.granit_error.specs.OptionsData.{OptionsData}
-use Rattle.granit_invariants.proofs.RoomSteps.{calm_by}
-use Rattle.granit_invariants.proofs.RoomSteps.{Calm, CalmBy, Leaves, MayWait}
-use Rattle.granit_invariants.proofs.RoomStream.{token_leaves}
+use Rattle.granit_feeding.proofs.RoomSteps.{calm_by}
+use Rattle.granit_feeding.proofs.RoomSteps.{Calm, CalmBy, Leaves, MayWait}
+use Rattle.granit_feeding.proofs.RoomStream.{token_leaves}
 use Rattle.granit_lexemes.specs.Basics.{fails_at}
 use Rattle.granit_lexemes.specs.Comment.{CommentRead}
 use Rattle.granit_lexemes.specs.Lexeme as lexemes
@@ -35,8 +35,8 @@ use Rattle.granit_recovery.proofs.SeatLaws.{clean_rooted, end_top_fine, end_top_
 use Rattle.granit_recovery.proofs.SeatLaws.{flow_sequence_sits, mapping_sits, node_sits, Rooted, sequence_sits}
 use Rattle.granit_recovery.proofs.SeatLaws.{Sits, sits_if, SitsBy, StepSits}
 use Rattle.granit_scalars.proofs.Turning.{Carries, pieces_hold}
-use Rattle.granit_steps.proofs.Nesting.{Fine}
-use Rattle.granit_steps.proofs.StreamNesting.{is_end_item}
+use Rattle.granit_streams.proofs.Nesting.{Fine}
+use Rattle.granit_streams.proofs.StreamNesting.{is_end_item}
 
 -- ---- around documents
 

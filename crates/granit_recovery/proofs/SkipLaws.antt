@@ -25,9 +25,9 @@ use Rattle.granit_restart.specs.Restart.{cursor_at, read_boundary}
 use Rattle.granit_restart.specs.Skipping.{Ahead, NoEnd, BehindDocument, AtStreamEnd, SkipEnd, Ended, Failed, Stops}
 use Rattle.granit_restart.specs.Skipping.{ahead_by, ahead, ends_before, skip_turn, with_pending, skip_ahead, skip_in}
 use Rattle.granit_restart.specs.Skipping.{skip_by_turns, restarted, skipped_fault, skipped_to, skipped_document}
-use Rattle.granit_steps.proofs.Nesting.{levels_of}
+use Rattle.granit_streams.proofs.Nesting.{levels_of}
 use Rattle.granit_steps.proofs.StepLaws.{step_turn-Shortens}
-use Rattle.granit_steps.proofs.StreamLaws.{has_end}
+use Rattle.granit_streams.proofs.StreamLaws.{has_end}
 use Rattle.granit_steps.specs.Levels.{Level, InStream, behind_event, behind_events}
 use Rattle.granit_steps.specs.Steps.{StepState, Turn, with_read, read_unless, read_more, with_fed}
 use Rattle.granit_steps.specs.Steps.{front_turn, turn_by, may_go, line_behind, step_turn, step_size, first_pending}

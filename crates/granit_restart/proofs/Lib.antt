@@ -1,8 +1,6 @@
 pub mod AheadLaws
 pub mod BoundaryLaws
-pub mod EndLaws
 pub mod LookLaws
-pub mod LookShift
 pub mod LookTurns
 pub mod MarkLaws
 pub mod MarkReads

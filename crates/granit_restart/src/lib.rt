@@ -4,18 +4,8 @@
 
 mod boundaries;
 mod kept;
-mod looking;
 mod turns;
 
-pub use boundaries::{
-    no_other_boundary_is_next, the_next_boundary_is_found, the_same_boundary_is_next_further_on,
-};
+pub use boundaries::{no_other_boundary_is_next, the_next_boundary_is_found, the_same_boundary_is_next_further_on};
 pub use kept::what_may_go_holds_the_boundary;
-pub use looking::{
-    a_comment_that_waits_takes_room, a_look_changes_no_event,
-    a_look_tells_whether_a_document_follows, looking_goes_turn_by_turn,
-    no_document_comes_behind_a_look, skipping_ends_alike_ahead,
-};
-pub use turns::{
-    failing_goes_turn_by_turn, skipping_ends_where_an_end_waits, skipping_goes_turn_by_turn,
-};
+pub use turns::{failing_goes_turn_by_turn, skipping_ends_where_an_end_waits, skipping_goes_turn_by_turn};

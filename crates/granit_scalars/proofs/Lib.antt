@@ -1,6 +1,5 @@
 pub mod CommentCauses
 pub mod Comments
-pub mod EscapeCauses
 pub mod Folding
 pub mod Nameless
 pub mod PlainKept
@@ -10,19 +9,7 @@ pub mod PlainReads
 pub mod PlainSpelling
 pub mod PlainTurns
 pub mod Printing
-pub mod QuotedCauses
 pub mod QuotedEscapes
-pub mod QuotedFolding
-pub mod QuotedForms
-pub mod QuotedGaps
-pub mod QuotedKept
-pub mod QuotedLaw
-pub mod QuotedLines
-pub mod QuotedOnce
-pub mod QuotedReads
-pub mod QuotedRuns
-pub mod QuotedTail
 pub mod QuotedTurns
 pub mod Stepping
 pub mod Turning
-pub mod Verbatim

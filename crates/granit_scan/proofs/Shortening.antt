@@ -7,8 +7,8 @@ use Rattle.granit_lexemes.specs.Pieces.{Shortens}
 use Rattle.granit_machine.specs.Lexing.{FlaggedItem}
 use Rattle.granit_machine.specs.Reader.{LexState, behind_read, is_end, lex_turn, read}
 use Rattle.granit_machine.specs.ReaderState.{Read, ReaderState}
-use Rattle.granit_machine.proofs.LexLengths.{ReadFits, read-fits}
-use Rattle.granit_machine.proofs.ReadLengths.{reader_len}
+use Rattle.granit_termination.proofs.LexLengths.{ReadFits, read-fits}
+use Rattle.granit_termination.proofs.ReadLengths.{reader_len}
 use Rattle.granit_scan.specs.Following.{Following}
 use Rattle.granit_scan.specs.TokenSteps.{TokenState, TokenTurn, front_token_turn, read_more_tokens, token_size}
 use Rattle.granit_scan.specs.TokenSteps.{token_turn, token_turn_by, with_tokens_read}

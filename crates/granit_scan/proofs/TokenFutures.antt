@@ -12,8 +12,8 @@ use Rattle.granit_machine.specs.Lexing.{FlaggedItem}
 use Rattle.granit_machine.specs.Machine.{front_if, is_settled, settled}
 use Rattle.granit_machine.specs.Reader.{LexState, behind_read, is_end, lex_len, lex_turn, read}
 use Rattle.granit_machine.specs.ReaderState.{Read, ReaderState}
-use Rattle.granit_machine.proofs.LexLengths.{ReadFits, lex_turn-Shortens, read-fits}
-use Rattle.granit_machine.proofs.ReadLengths.{reader_len}
+use Rattle.granit_termination.proofs.LexLengths.{ReadFits, lex_turn-Shortens, read-fits}
+use Rattle.granit_termination.proofs.ReadLengths.{reader_len}
 use Rattle.granit_scan.specs.Following.{Following}
 use Rattle.granit_scan.specs.TokenSteps.{TokenState, TokenTurn, front_token_turn, read_more_tokens, read_tokens_unless}
 use Rattle.granit_scan.specs.TokenSteps.{token_size, token_turn, token_turn_by, with_tokens_read}

@@ -5,8 +5,8 @@ use Rattle.std.proofs.Common.{replicate, Option, Some, None, refl, sym, ap, ap�
 use Rattle.std.specs.Prelude.{if◌then◌else◌}
 use Rattle.std.proofs.lemmas.List.{length-map}
 use Rattle.std.proofs.lemmas.Bool.Decides.{nat_tests}
-use Rattle.granit_answers.proofs.BracketsPassed.{kinds_flow, kinds_in}
-use Rattle.granit_answers.specs.Order.{may_follow, open_behind}
+use Rattle.granit_order.proofs.BracketsPassed.{kinds_flow, kinds_in}
+use Rattle.granit_order.specs.Order.{may_follow, open_behind}
 use Rattle.granit_language.specs.OpenColumns.{EntryOf, columns_of, is_outer_kind, start_column}
 use Rattle.granit_language.specs.Seen.{terminal_kind}
 use Rattle.granit_lexemes.specs.Lexeme.{LexemeKind, Directive, DocumentStart, DocumentEnd, StreamEnd, Open, Close}
@@ -20,8 +20,8 @@ use Rattle.granit_lexemes.specs.declared.layout.LastLexeme.TheVariants.{Another,
 use Rattle.granit_machine.specs.Columns.{entered, entered_columns, up_to_column}
 use Rattle.granit_machine.specs.Laid.{Laid, in_square, innermost_column, is_column, is_in_flow, is_nonempty, is_opener}
 use Rattle.granit_machine.specs.Laid.{same_bracket}
-use Rattle.granit_reading.proofs.ColumnsKept.{Change, all_end, all_widened, keyed, nothing, own, passes, pop, popped}
-use Rattle.granit_reading.proofs.ColumnsKept.{push, pushed}
+use Rattle.granit_places.proofs.ColumnsKept.{Change, all_end, all_widened, keyed, nothing, own, passes, pop, popped}
+use Rattle.granit_places.proofs.ColumnsKept.{push, pushed}
 use Rattle.granit_scan.specs.Following.{entry_in_column, entry_start, laid_behind, laid_by_lexeme, with_last}
 use Rattle.granit_steps.specs.Tokens.{behind_ends, begins_single, ended_blocks, inserted, is_bare_colon_of}
 use Rattle.granit_steps.specs.Tokens.{is_new_column}

@@ -3,9 +3,9 @@ use Rattle.std.proofs.Common.{◌≡◌, ℕ, zero, suc, Bool, true, false, List
 use Rattle.std.proofs.Common.{Result, Ok, Err, refl, sym, ap, ap₂, ◌∙◌, subst}
 use Rattle.std.specs.Prelude.{if◌then◌else◌}
 use Rattle.std.proofs.lemmas.List.{map-append}
-use Rattle.granit_answers.proofs.BracketsKept.{closed_same, fresh_kinds, run_flow}
-use Rattle.granit_answers.proofs.BracketsPassed.{Passed, kinds_flow, kinds_in, passed}
-use Rattle.granit_answers.specs.Order.{may_follow, open_behind}
+use Rattle.granit_order.proofs.BracketsKept.{closed_same, fresh_kinds, run_flow}
+use Rattle.granit_order.proofs.BracketsPassed.{Passed, kinds_flow, kinds_in, passed}
+use Rattle.granit_order.specs.Order.{may_follow, open_behind}
 use Rattle.granit_error.specs.OptionsData.{OptionsData}
 use Rattle.granit_language.specs.Before.{closed_for, freshened}
 use Rattle.granit_language.specs.Reached.{ReadRefused, Reads, ends_column_by, of_comment, of_lexeme}
@@ -23,11 +23,11 @@ use Rattle.granit_machine.specs.NodeLexemes.{note_items}
 use Rattle.granit_machine.specs.Reader.{LexState, behind_read, is_end, lex_len, lex_turn, read}
 use Rattle.granit_machine.specs.ReaderState.{Read, ReaderState}
 use Rattle.granit_reading.proofs.Answering.{Answers}
-use Rattle.granit_reading.proofs.ColumnsKept.{Change}
-use Rattle.granit_reading.proofs.ColumnsLaw.{closed_brackets, columns_change}
-use Rattle.granit_reading.proofs.Moving.{lexeme_moved}
+use Rattle.granit_places.proofs.ColumnsKept.{Change}
+use Rattle.granit_places.proofs.ColumnsLaw.{closed_brackets, columns_change}
+use Rattle.granit_places.proofs.Moving.{lexeme_moved}
 use Rattle.granit_reading.proofs.ReadingLaw.{ReadsBy, read-is}
-use Rattle.granit_reading.proofs.Telling.{Agrees, gap_agrees, telling}
+use Rattle.granit_places.proofs.Telling.{Agrees, gap_agrees, telling}
 use Rattle.granit_scan.specs.Following.{Following, followed, following_start}
 use Rattle.granit_scan.specs.TokenViews.{PlainToken, shown_token, shown_tokens}
 use Rattle.granit_scan.specs.TokensTold.{written}

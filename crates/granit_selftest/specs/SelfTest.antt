@@ -2,7 +2,7 @@
 use Rattle.std.specs.Prelude.{ℕ, List, ◌++◌, length, codes}
 use Rattle.std.specs.Fmt.{decimal}
 use Rattle.std.specs.Str.{encode_utf8_all}
-use Rattle.granit_canonical.specs.Canonical.{canonical_events}
+use Rattle.granit_canonical_steps.specs.Canonical.{canonical_events}
 use Rattle.granit_error.specs.OptionsData.{default_options}
 use Rattle.granit_generator.specs.Generator.{trees_made}
 use Rattle.granit_generator.specs.NodeCount.{trees_nodes}

@@ -2,10 +2,10 @@
 use Rattle.std.proofs.Common.{◌≡◌, ℕ, List, [], ◌∷◌, Option, Some, None, Ok, refl, sym, ap, ◌∙◌}
 use Rattle.std.specs.Prelude.{if◌then◌else◌, not}
 use Rattle.granit_answers.proofs.OneCause.{answer_reads}
-use Rattle.granit_answers.specs.Answers.{AnswersReading}
+use Rattle.granit_order.specs.Answers.{AnswersReading}
 use Rattle.granit_base.specs.declared.place.Span.{Span}
 use Rattle.granit_error.specs.OptionsData.{OptionsData}
-use Rattle.granit_invariants.specs.Quiet.{but_comments}
+use Rattle.granit_quiet.specs.Quiet.{but_comments}
 use Rattle.granit_language.specs.Telling.{events_told}
 use Rattle.granit_lexemes.specs.PlainEvent.{PlainEvent, EventKind, Comment, is_note}
 use Rattle.granit_machine.specs.Machine.{run}

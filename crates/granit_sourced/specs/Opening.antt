@@ -1,6 +1,6 @@
 -- Where the reading of an iterator's characters begins.
 use Rattle.std.specs.Prelude.{ℕ, false, List}
-use Rattle.granit_invariants.specs.Offsets.{bare_here}
+use Rattle.granit_feeding.specs.Offsets.{bare_here}
 use Rattle.granit_lexemes.specs.Here.{Here, start_of}
 
 -- no byte offset is told, and nothing can be lent

@@ -18,7 +18,7 @@ use granit_base::Span;
 use granit_error::ScanError;
 use granit_event::Event;
 use granit_input::BorrowedInput;
-use granit_recovery::calls_go_by_turns;
+use granit_calls::calls_go_by_turns;
 use granit_stepper::Stepper;
 use std::alloc::Global;
 

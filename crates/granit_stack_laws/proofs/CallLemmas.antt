@@ -15,7 +15,7 @@ use Rattle.granit_layers.specs.Turning.{Next, part_of}
 use Rattle.granit_layers.specs.declared.layer.Layer.{Layer}
 use Rattle.granit_layers.specs.declared.turn.Part.{Part}
 use Rattle.granit_layers.specs.declared.turn.Part.TheVariants as parts
-use Rattle.granit_recovery.specs.Ids.{IdsFrom, id_of}
+use Rattle.granit_ids.specs.Ids.{IdsFrom, id_of}
 use Rattle.granit_replay.specs.Replaying.{Replay}
 use Rattle.granit_replay.specs.declared.resolver.Included.{Included}
 use Rattle.granit_stack.specs.Including.{Handling, IncludesNamed, ReadsText, first_number, number_above, replayed}

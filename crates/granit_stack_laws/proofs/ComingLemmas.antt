@@ -16,7 +16,7 @@ use Rattle.granit_lexemes.specs.Outcome.{Fault}
 use Rattle.granit_lexemes.specs.PlainEvent.{PlainEvent}
 use Rattle.granit_parser.specs.Streams.{bare_text_start}
 use Rattle.granit_parser.specs.Parsing.{LeadsTo, first_given, none_given}
-use Rattle.granit_recovery.specs.Ids.{Counted, IdsFrom, counted_start, counted_step, counting_from, id_of}
+use Rattle.granit_ids.specs.Ids.{Counted, IdsFrom, counted_start, counted_step, counting_from, id_of}
 use Rattle.granit_replay.specs.Replaying.{Replay}
 use Rattle.granit_replay.specs.declared.resolver.Included.{Included}
 use Rattle.granit_replay.specs.declared.resolver.Included.TheVariants.{Owned, Borrowed}

@@ -21,7 +21,7 @@ use Rattle.granit_machine.specs.Frames.{ParserState}
 use Rattle.granit_parser.proofs.SourceLemmas.{never_told}
 use Rattle.granit_parser.specs.Numbers.{next_number, with_number}
 use Rattle.granit_parser.specs.Parsing.{ParserStepsTo, Parsing, StandsAt, StandsBefore, Stepping, StandsIn}
-use Rattle.granit_recovery.specs.Ids.{Counted, counted_more, counted_start, counted_step, counting_from, id_of, id_told}
+use Rattle.granit_ids.specs.Ids.{Counted, counted_more, counted_start, counted_step, counting_from, id_of, id_told}
 use Rattle.granit_restart.specs.Turned.{with_count}
 use Rattle.granit_replay.specs.Replaying.{Replay, behind_next, next_of, raised_by, raised_by_all}
 use Rattle.granit_replay.specs.Replaying.{raised_over}

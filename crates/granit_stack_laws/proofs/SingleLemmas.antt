@@ -12,8 +12,8 @@ use Rattle.granit_lexemes.specs.Here.{Here, start_of}
 use Rattle.granit_lexemes.specs.Outcome.{Fault}
 use Rattle.granit_lexemes.specs.PlainEvent.{PlainEvent, EventKind, StreamEnd, DocumentEnd, Comment}
 use Rattle.granit_parser.specs.Streams.{bare_text_start}
-use Rattle.granit_recovery.specs.Ids.{counting_from}
-use Rattle.granit_recovery.specs.OneDocument.{document_starts, EventFits, OneDocument}
+use Rattle.granit_ids.specs.Ids.{counting_from}
+use Rattle.granit_ids.specs.OneDocument.{document_starts, EventFits, OneDocument}
 use Rattle.granit_replay.specs.Replaying.{Replay}
 use Rattle.granit_replay.specs.declared.resolver.Included.{Included}
 use Rattle.granit_replay.specs.declared.resolver.Included.TheVariants.{Owned, Borrowed}

@@ -7,8 +7,8 @@ use Rattle.granit_layers.specs.Passing.{StackRun, PassesOn, held}
 use Rattle.granit_layers.specs.Stacking.{Stack, is_ending}
 use Rattle.granit_layers.specs.Turning.{Next}
 use Rattle.granit_layers.specs.declared.layer.Layer.{Layer}
-use Rattle.granit_recovery.specs.Ids.{IdsFrom}
-use Rattle.granit_recovery.specs.OneDocument.{document_starts}
+use Rattle.granit_ids.specs.Ids.{IdsFrom}
+use Rattle.granit_ids.specs.OneDocument.{document_starts}
 use Rattle.granit_replay.specs.Replaying.{Replay}
 use Rattle.granit_replay.specs.declared.resolver.Included.{Included}
 use Rattle.granit_stack_laws.specs.Fresh.{AreNew, Happens, IdsBelow}

@@ -9,7 +9,7 @@ use Rattle.granit_event.specs.Events.{event_kind}
 use Rattle.granit_layers.specs.Passing.{held}
 use Rattle.granit_layers.specs.Stacking.{Answer, PeeksAs, Pushes, StepsTo}
 use Rattle.granit_layers.specs.Turning.{Next}
-use Rattle.granit_recovery.specs.Ids.{id_of}
+use Rattle.granit_ids.specs.Ids.{id_of}
 use Rattle.granit_stack.specs.Including.{Handling, IncludesNamed}
 use Rattle.granit_stack.specs.Stacked.{Stacked}
 

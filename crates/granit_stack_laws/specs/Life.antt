@@ -6,7 +6,7 @@ use Rattle.granit_layers.specs.declared.kinds.AnyKind.{AnyKind}
 use Rattle.granit_layers.specs.declared.kinds.AnyKind.TheVariants.{First, Second, Third, Fourth}
 use Rattle.granit_lexemes.specs.Here.{Here}
 use Rattle.granit_parser.specs.Parsing.{Parsing, StandsIn}
-use Rattle.granit_recovery.specs.Ids.{counting_from}
+use Rattle.granit_ids.specs.Ids.{counting_from}
 use Rattle.granit_replay.specs.Replaying.{Replay}
 
 -- nothing was read of it, and nothing looked at

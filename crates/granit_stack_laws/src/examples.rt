@@ -9,7 +9,7 @@ ghost use Rattle.granit_layers.specs.Stacking.{layer_of};
 ghost use Rattle.granit_layers.specs.declared.kinds.AnyKind.TheVariants.{Fourth};
 ghost use Rattle.granit_lexemes.specs.Here.{Here};
 ghost use Rattle.granit_parser.specs.Parsing.{Parsing, StandsAt};
-ghost use Rattle.granit_recovery.specs.OneDocument.{document_starts};
+ghost use Rattle.granit_ids.specs.OneDocument.{document_starts};
 ghost use Rattle.granit_replay.specs.declared.resolver.Included.TheVariants.{Borrowed};
 ghost use Rattle.granit_stack_laws.specs.Examples.{lone, owned_name, running, small_end, small_events, small_layer};
 ghost use Rattle.granit_stack_laws.specs.Examples.{small_life, small_replay, small_text};

@@ -3,7 +3,7 @@ ghost use Rattle.std.specs.Prelude.{◌≤◌, ℕ, false, Ok, Option};
 ghost use Rattle.granit_error.specs.OptionsData.{OptionsData};
 ghost use Rattle.granit_layers.specs.Nested.{IsOneDocument};
 ghost use Rattle.granit_layers.specs.declared.kinds.AnyKind.TheVariants.{Fourth};
-ghost use Rattle.granit_recovery.specs.OneDocument.{document_starts};
+ghost use Rattle.granit_ids.specs.OneDocument.{document_starts};
 ghost use Rattle.granit_replay.specs.Replaying.{Replay};
 ghost use Rattle.granit_replay.specs.declared.resolver.Included.{Included};
 ghost use Rattle.granit_stack_laws.specs.Coming.{IncludeComesThrough, IncludesAreNew};
@@ -13,9 +13,7 @@ ghost use Rattle.granit_stack_laws.specs.Life.{IsNumbered, IsUnread, UnreadAny};
 use granit_input::BorrowedInput;
 use granit_layers::{AnyKind, StackedParser, a_replay_comes_through};
 use granit_parser::Parser;
-use granit_recovery::{
-    a_text_with_one_start_is_one_document, ids_are_counted, ids_begin_at_the_offset,
-};
+use granit_ids::{a_text_with_one_start_is_one_document, ids_are_counted, ids_begin_at_the_offset};
 use granit_replay::{ReplayParser, Resolver};
 
 /// A text that is read whole, above a parser or not, has at most one document where at most one of its events starts

@@ -4,8 +4,8 @@ use Rattle.std.proofs.Common.{Err, refl, sym, subst}
 use Rattle.std.specs.Prelude.{if◌then◌else◌}
 use Rattle.granit_error.specs.OptionsData.{OptionsData}
 use Rattle.granit_frames.specs.Outside.{NoneWaitsOutside}
-use Rattle.granit_invariants.proofs.RoomSteps.{Calm, CalmBy, FreshBy, Leaves, MayWait}
-use Rattle.granit_invariants.proofs.RoomStream.{token_leaves}
+use Rattle.granit_feeding.proofs.RoomSteps.{Calm, CalmBy, FreshBy, Leaves, MayWait}
+use Rattle.granit_feeding.proofs.RoomStream.{token_leaves}
 use Rattle.granit_lexemes.specs.Basics.{fails_at}
 use Rattle.granit_lexemes.specs.Comment.{CommentRead}
 use Rattle.granit_error.specs.FaultKind.{TooManyComments}

@@ -7,7 +7,7 @@ use Rattle.granit_error.specs.OptionsData.{OptionsData}
 use Rattle.granit_lexemes.specs.Lexeme.{KeyStart, Lexeme, Item, OfLexeme, OfComment}
 use Rattle.granit_lexemes.specs.Outcome.{Fault, ◌>>=◌}
 use Rattle.granit_lexemes.specs.Pieces.{with_front, then_more, turns, pieces}
-use Rattle.granit_machine.proofs.LexLengths.{lex_by}
+use Rattle.granit_termination.proofs.LexLengths.{lex_by}
 use Rattle.granit_machine.specs.Laid.{Laid}
 use Rattle.granit_machine.specs.Lexing.{Flagging, is_nearest, others, and_key, flag_lexeme, flagging}
 use Rattle.granit_machine.specs.Reader.{read, LexState, behind_read, lex_turn, lex_len, is_end}

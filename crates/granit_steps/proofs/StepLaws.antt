@@ -22,8 +22,8 @@ use Rattle.granit_steps.specs.Steps.{front_turn, turn_by, Turn, step_turn, step_
 use Rattle.granit_steps.specs.Steps.{start_from, steps_start}
 use Rattle.granit_steps.specs.Told.{EventsTold, before_told, told_behind, fed, parsers_items, told_read, told_from}
 use Rattle.granit_steps.specs.Told.{told_of, answer, GivesEvents, gives_end, gives_fault, gives_event, FlagsOf}
-use Rattle.granit_machine.proofs.LexLengths.{ReadFits, read-fits}
-use Rattle.granit_machine.proofs.ReadLengths.{reader_len}
+use Rattle.granit_termination.proofs.LexLengths.{ReadFits, read-fits}
+use Rattle.granit_termination.proofs.ReadLengths.{reader_len}
 use Rattle.granit_steps.proofs.Chains.{LexChain, pieces_chain, not_behind, greater_false}
 use Rattle.granit_steps.proofs.Futures.{read_out, future_of, future, Ready, IsReady, IsStill, TurnKeeps, turn_keeps}
 use Rattle.granit_steps.proofs.Futures.{pushed_nil, length_pushed, length_asked, items_length, size_behind}

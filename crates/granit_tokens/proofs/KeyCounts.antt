@@ -12,7 +12,7 @@ use Rattle.granit_machine.specs.Items.{has_key}
 use Rattle.granit_machine.specs.Laid.{Laid}
 use Rattle.granit_machine.specs.Lexing.{Flagging, is_nearest, others, and_key, flag_lexeme, flagging, lex_start}
 use Rattle.granit_machine.specs.Reader.{LexState}
-use Rattle.granit_reading.proofs.Choosing.{Held, Chosen}
+use Rattle.granit_places.proofs.Choosing.{Held, Chosen}
 use Rattle.granit_steps.specs.Flags.{is_keyed}
 use Rattle.granit_steps.specs.Tokens.{Insertion, BlockEnd, BlockMappingStart, BlockSequenceStart, KeySign, PairStart}
 use Rattle.granit_steps.specs.Tokens.{PairEnd, ScanToken, Inserted, Own, insert_if, ended_blocks, is_new_column}

@@ -16,14 +16,14 @@ use Rattle.granit_lexemes.specs.declared.layout.OpenBracket.{OpenBracket}
 use Rattle.granit_lexemes.specs.declared.layout.OpenColumn.{OpenColumn}
 use Rattle.granit_machine.specs.Columns.{up_to_column}
 use Rattle.granit_machine.specs.Laid.{Laid, is_opener, is_nonempty, is_in_flow, in_square, innermost_column, is_column}
-use Rattle.granit_reading.proofs.ColumnsKept.{pop, popped}
+use Rattle.granit_places.proofs.ColumnsKept.{pop, popped}
 use Rattle.granit_steps.specs.Tokens.{Own, left_open, ended_blocks, is_new_column, is_bare_colon_of}
 use Rattle.granit_steps.specs.Tokens.{begins_single, top_pair, with_pair_if, pairs_behind, tail_token, inserted}
 use Rattle.granit_steps.specs.Tokens.{tokens_of, pairs_of}
-use Rattle.granit_answers.specs.Order.{open_behind, closes_innermost, due_behind, KeepsKey}
-use Rattle.granit_answers.proofs.BracketsPassed.{kinds_in}
-use Rattle.granit_answers.proofs.ColumnLists.{edges, due_pushed, columns_behind, pop_suc, pop_all}
-use Rattle.granit_answers.proofs.KeysKept.{shut}
+use Rattle.granit_order.specs.Order.{open_behind, closes_innermost, due_behind, KeepsKey}
+use Rattle.granit_order.proofs.BracketsPassed.{kinds_in}
+use Rattle.granit_order.proofs.ColumnLists.{edges, due_pushed, columns_behind, pop_suc, pop_all}
+use Rattle.granit_order.proofs.KeysKept.{shut}
 use Rattle.granit_tokens.proofs.Openings.{Openings, kind_passed, and_then, passed, passed_both}
 use Rattle.granit_tokens.proofs.Stacks.{blocks, open_at, shaped, is_new, IsFlaggedNode, DueFits, PairsInside, ends_pair}
 use Rattle.granit_tokens.proofs.Stacks.{in_brackets, outside_passed, own_outside, inside_behind}

@@ -1,7 +1,7 @@
 -- The tokens of what is read pass what is open, read by read.
 use Rattle.std.proofs.Common.{◌≡◌, ℕ, Bool, true, false, List, [], ◌∷◌, ◌++◌, drop, map, Option, Some, None}
 use Rattle.std.proofs.Common.{refl, sym, ap, ◌∙◌, subst}
-use Rattle.granit_agreement.specs.Fair.{is_key_part}
+use Rattle.granit_views.specs.Fair.{is_key_part}
 use Rattle.granit_error.specs.OptionsData.{OptionsData}
 use Rattle.granit_language.specs.Before.{freshened, closed_for}
 use Rattle.granit_language.specs.Fitting.{role_of, outer_keys}
@@ -21,20 +21,20 @@ use Rattle.granit_machine.specs.Laid.{Laid, is_opener, is_nonempty}
 use Rattle.granit_machine.specs.Lexing.{FlaggedItem, Flagging, is_nearest, flag_lexeme, flag_item, flagging}
 use Rattle.granit_machine.specs.NodeLexemes.{note_items}
 use Rattle.granit_machine.specs.ReaderState.{ReaderState}
-use Rattle.granit_reading.proofs.Choosing.{Held, Within, Below, below_within, below_others, Chosen, nones, chosen_none}
-use Rattle.granit_reading.proofs.Choosing.{chosen_within, not_nearest, Moves, role_key, stepped}
-use Rattle.granit_reading.proofs.Holding.{held_in, held, full, fresh-within}
-use Rattle.granit_reading.proofs.Moving.{agrees_held, lexeme_moved, closed_held}
-use Rattle.granit_reading.proofs.Telling.{gap_agrees, telling}
+use Rattle.granit_places.proofs.Choosing.{Held, Within, Below, below_within, below_others, Chosen, nones, chosen_none}
+use Rattle.granit_places.proofs.Choosing.{chosen_within, not_nearest, Moves, role_key, stepped}
+use Rattle.granit_places.proofs.Holding.{held_in, held, full, fresh-within}
+use Rattle.granit_places.proofs.Moving.{agrees_held, lexeme_moved, closed_held}
+use Rattle.granit_places.proofs.Telling.{gap_agrees, telling}
 use Rattle.granit_steps.specs.Flags.{is_keyed, flags}
 use Rattle.granit_steps.specs.Tokens.{tokens_of, pairs_of, begins_single, with_pair_if, StateItem, item_in, tokens}
-use Rattle.granit_answers.specs.FrameColumns.{flag_before}
-use Rattle.granit_answers.specs.Order.{may_follow, closes_innermost, due_behind}
-use Rattle.granit_answers.proofs.BracketsKept.{fresh_kinds, closed_same}
-use Rattle.granit_answers.proofs.BracketsPassed.{kinds_in, Passed, passed}
-use Rattle.granit_answers.proofs.ColumnLists.{KeysTo, columns_behind, edges}
-use Rattle.granit_answers.proofs.KeysKept.{due_of, Aim, KeyFits}
-use Rattle.granit_answers.proofs.KeysMoved.{outer_in, clash}
+use Rattle.granit_order.specs.FrameColumns.{flag_before}
+use Rattle.granit_order.specs.Order.{may_follow, closes_innermost, due_behind}
+use Rattle.granit_order.proofs.BracketsKept.{fresh_kinds, closed_same}
+use Rattle.granit_order.proofs.BracketsPassed.{kinds_in, Passed, passed}
+use Rattle.granit_order.proofs.ColumnLists.{KeysTo, columns_behind, edges}
+use Rattle.granit_order.proofs.KeysKept.{due_of, Aim, KeyFits}
+use Rattle.granit_order.proofs.KeysMoved.{outer_in, clash}
 use Rattle.granit_tokens.proofs.Laying.{Fresh, lexeme_passes, pairs_after}
 use Rattle.granit_tokens.proofs.Openings as openings
 use Rattle.granit_tokens.proofs.Openings.{Openings, passed_both}
@@ -173,7 +173,7 @@ goes_nothing s = record {
   keyed = tt;
   passes = λ ps pairs opener fits. (
     ps,
-    ap (λ k. Some (open_at (kinds_in s.brackets) ps (Rattle.granit_answers.proofs.KeysMoved.due_by_key k s.key)
+    ap (λ k. Some (open_at (kinds_in s.brackets) ps (Rattle.granit_order.proofs.KeysMoved.due_by_key k s.key)
         (edges s))) (none_chosen s.brackets s.key),
   );
 }

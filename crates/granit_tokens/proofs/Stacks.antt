@@ -5,7 +5,7 @@ use Rattle.std.proofs.Common.{length, replicate, Option, Some, None, refl, sym, 
 use Rattle.std.proofs.Math.Bool.{and-false, and-true}
 use Rattle.std.specs.Prelude.{nat_lt}
 use Rattle.std.proofs.lemmas.Bool.Decides.{nat_tests}
-use Rattle.granit_agreement.specs.Fair.{is_key_part}
+use Rattle.granit_views.specs.Fair.{is_key_part}
 use Rattle.granit_base.specs.Place.{Mark}
 use Rattle.granit_language.specs.Reading.{begins_kind}
 use Rattle.granit_language.specs.Scope.{no_scope}
@@ -15,13 +15,13 @@ use Rattle.granit_lexemes.specs.Lexeme.{LexemeKind, Open, Close, Comma}
 use Rattle.granit_lexemes.specs.Lexeme.{Dash, Question, Colon, Alias, Anchor, Tag, Scalar, KeyStart, Lexeme}
 use Rattle.granit_lexemes.specs.declared.layout.Bracket.{Bracket}
 use Rattle.granit_lexemes.specs.declared.layout.Bracket.TheVariants.{Square, Curly}
-use Rattle.granit_reading.proofs.ColumnsKept.{chosen, pop, push}
+use Rattle.granit_places.proofs.ColumnsKept.{chosen, pop, push}
 use Rattle.granit_steps.specs.Tokens.{Insertion, BlockEnd, BlockMappingStart, BlockSequenceStart, KeySign, PairStart}
 use Rattle.granit_steps.specs.Tokens.{PairEnd, ScanToken, Inserted, insert_if, block_start, top_pair, with_pair_if}
 use Rattle.granit_steps.specs.Tokens.{ends_single, pairs_behind}
-use Rattle.granit_answers.specs.Order.{outer_brackets, open_behind, is_innermost, closes_innermost, due_if, due_by}
-use Rattle.granit_answers.specs.Order.{may_follow}
-use Rattle.granit_answers.proofs.ColumnLists.{due_pushed, entry_columns}
+use Rattle.granit_order.specs.Order.{outer_brackets, open_behind, is_innermost, closes_innermost, due_if, due_by}
+use Rattle.granit_order.specs.Order.{may_follow}
+use Rattle.granit_order.proofs.ColumnLists.{due_pushed, entry_columns}
 use Rattle.granit_tokens.proofs.Openings.{OfBlock, OfPair, OfBracket, Openings, insertion_passed, kind_passed}
 use Rattle.granit_tokens.proofs.Openings.{closes_of, and_then, passed, passed_both}
 

@@ -3,10 +3,10 @@ use Rattle.std.proofs.Common.{◌≡◌, ℕ, zero, suc, Bool, true, false, List
 use Rattle.std.proofs.Common.{Ok, Err, refl, sym, ap, ◌∙◌, subst}
 use Rattle.std.specs.Prelude.{if◌then◌else◌}
 use Rattle.std.proofs.lemmas.List.{append-nil}
-use Rattle.granit_answers.proofs.BracketsPassed.{kinds_in}
-use Rattle.granit_answers.proofs.ColumnLists.{edges}
-use Rattle.granit_answers.proofs.KeysKept.{all_fit, Keeps, all_keep, none_due}
-use Rattle.granit_answers.proofs.KeysMoved.{outer_in}
+use Rattle.granit_order.proofs.BracketsPassed.{kinds_in}
+use Rattle.granit_order.proofs.ColumnLists.{edges}
+use Rattle.granit_order.proofs.KeysKept.{all_fit, Keeps, all_keep, none_due}
+use Rattle.granit_order.proofs.KeysMoved.{outer_in}
 use Rattle.granit_error.specs.OptionsData.{OptionsData}
 use Rattle.granit_language.specs.Reached.{ReadRefused, Reads, Reached, stops, goes_on}
 use Rattle.granit_lexemes.specs.Here.{start_of}
@@ -18,7 +18,7 @@ use Rattle.granit_machine.specs.Lexing.{lex_start}
 use Rattle.granit_machine.specs.Reader.{LexState, is_end, behind_read, read, lex_turn, lex_len}
 use Rattle.granit_machine.specs.ReaderState.{ReaderState, Read, reader_start}
 use Rattle.granit_reading.proofs.Answering.{Answers}
-use Rattle.granit_reading.proofs.Counting.{start_at}
+use Rattle.granit_places.proofs.Counting.{start_at}
 use Rattle.granit_reading.proofs.ReadingLaw.{ReadsBy, read-is, lex_answers}
 use Rattle.granit_steps.proofs.StepLaws.{flags_by_number}
 use Rattle.granit_steps.proofs.TokenLemmas.{paired_items}

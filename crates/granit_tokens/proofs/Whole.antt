@@ -2,9 +2,9 @@
 use Rattle.std.proofs.Common.{◌≡◌, ℕ, suc, ◌≤◌, Bool, true, List, [], ◌++◌, map, Option, Some, None, Result, Ok}
 use Rattle.std.proofs.Common.{Err, refl, sym, ap, ap₂, ◌∙◌}
 use Rattle.std.specs.Prelude.{is_none}
-use Rattle.granit_answers.proofs.BracketsKept.{fresh_kinds}
-use Rattle.granit_answers.proofs.BracketsPassed.{kinds_in}
-use Rattle.granit_answers.proofs.ColumnLists.{edges}
+use Rattle.granit_order.proofs.BracketsKept.{fresh_kinds}
+use Rattle.granit_order.proofs.BracketsPassed.{kinds_in}
+use Rattle.granit_order.proofs.ColumnLists.{edges}
 use Rattle.granit_answers.proofs.OneCause.{answer_reads}
 use Rattle.granit_base.specs.Place.{Mark}
 use Rattle.granit_error.specs.OptionsData.{OptionsData}
@@ -28,7 +28,7 @@ use Rattle.granit_machine.specs.PossibleKeys.{keyed_brackets}
 use Rattle.granit_machine.specs.Reader.{LexState, is_end_kind, is_end}
 use Rattle.granit_machine.specs.ReaderState.{ReaderState}
 use Rattle.granit_reading.proofs.SortAnswers.{kind_not_end}
-use Rattle.granit_reading.proofs.Telling.{SaysOf, Agrees, telling}
+use Rattle.granit_places.proofs.Telling.{SaysOf, Agrees, telling}
 use Rattle.granit_reading.proofs.WholeLaw.{lexed_whole}
 use Rattle.granit_steps.proofs.TokenLemmas.{paired_items}
 use Rattle.granit_steps.specs.Tokens.{ScanToken, item_in, text_tokens, items_of_states}

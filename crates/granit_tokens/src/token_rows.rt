@@ -1,6 +1,6 @@
 //! Tokens of worked texts with collections in one another, by computation; the expected ones are the original's.
 ghost use Rattle.std.specs.Prelude.{◌++◌, ◌≡◌, codes};
-ghost use Rattle.granit_steps.specs.TokenLines.{scans};
+ghost use Rattle.granit_streams.specs.TokenLines.{scans};
 ghost use Rattle.granit_tokens.specs.Counted.{counted};
 
 /// Starts and ends in one another.

@@ -1,4 +1,4 @@
-use Rattle.granit_agreement.proofs.WholeSteps.{step_next}
+use Rattle.granit_frame_steps.proofs.WholeSteps.{step_next}
 use Rattle.granit_agreement.proofs.steps.every_step_agrees.Goals as goal
 
 pub returns : goal.returns

@@ -1,6 +1,6 @@
 use Rattle.granit_comments.proofs.Unasked.{both_answered, told_unasked}
 use Rattle.granit_comments.proofs.comments.comments_off_leave_the_rest.Goals as goal
-use Rattle.granit_invariants.proofs.CommentLaws.{run_asked_too}
+use Rattle.granit_quiet.proofs.CommentLaws.{run_asked_too}
 use Rattle.granit_lexemes.specs.Here.{start_of}
 
 pub returns-clause-off : goal.returns-clause-off

@@ -5,7 +5,7 @@ use Rattle.granit_directives.specs.DirectiveCode.{directive_lexed}
 use Rattle.granit_error.specs.OptionsView.{options_of}
 use Rattle.granit_lexemes.specs.Directive.{directive}
 use Rattle.granit_lexemes.specs.DirectiveExtent.{AnswersDirective}
-use Rattle.granit_names.proofs.LineLaw.{whole_caused, whole_stands, whole_is}
+use Rattle.granit_directive_laws.proofs.LineLaw.{whole_caused, whole_stands, whole_is}
 use Rattle.granit_lexemes.specs.DirectiveCause.{DirectiveCause}
 
 pub returns-clause-directive : goal.returns-clause-directive

@@ -1,8 +1,8 @@
 use Rattle.granit_lexemes.specs.QuotedExtent.{AnswersQuoted, RefusesQuoted}
 use Rattle.granit_lexemes.specs.QuotedScalar.{quoted_scalar}
 use Rattle.granit_scalars.proofs.Nameless.{quoted_none}
-use Rattle.granit_scalars.proofs.QuotedLaw.{quoted_standing, quoted_refused}
-use Rattle.granit_scalars.proofs.QuotedOnce.{quoted_is_answered}
+use Rattle.granit_quoted_laws.proofs.QuotedLaw.{quoted_standing, quoted_refused}
+use Rattle.granit_quoted_laws.proofs.QuotedOnce.{quoted_is_answered}
 use Rattle.granit_cursor.specs.Reading.{Stands}
 use Rattle.granit_cursor.specs.Tokens.{layout_data}
 use Rattle.granit_quoted.specs.QuotedCode.{quoted_lexed}

@@ -1,5 +1,0 @@
-use Rattle.granit_answers.proofs.OrderSteps.{make_order}
-use Rattle.granit_answers.proofs.order.brackets_and_keys_make_an_order.Goals as goal
-
-pub returns : goal.returns
-returns c = make_order

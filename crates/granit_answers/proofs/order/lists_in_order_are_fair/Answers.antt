@@ -1,5 +1,0 @@
-use Rattle.granit_answers.proofs.OrderSteps.{ordered_fair}
-use Rattle.granit_answers.proofs.order.lists_in_order_are_fair.Goals as goal
-
-pub returns : goal.returns
-returns c = ordered_fair

@@ -1,5 +1,0 @@
-use Rattle.granit_before.proofs.FieldsSaid.{fields_said}
-use Rattle.granit_before.proofs.keys.fields_of_lexemes_are_said_of_those_before.Goals as goal
-
-pub returns : goal.returns
-returns c = fields_said

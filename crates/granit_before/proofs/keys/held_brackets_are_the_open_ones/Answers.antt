@@ -1,5 +1,0 @@
-use Rattle.granit_before.proofs.HeldWhole.{held_said}
-use Rattle.granit_before.proofs.keys.held_brackets_are_the_open_ones.Goals as goal
-
-pub returns : goal.returns
-returns c = λ o h items t r. (held_said o h items t r).brackets

@@ -1,5 +1,0 @@
-use Rattle.granit_before.proofs.StillSaid.{still_said}
-use Rattle.granit_before.proofs.keys.keys_may_still_begin_as_lexemes_say.Goals as goal
-
-pub returns : goal.returns
-returns c = still_said

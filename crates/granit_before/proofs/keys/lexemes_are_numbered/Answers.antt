@@ -1,5 +1,0 @@
-use Rattle.granit_before.proofs.Numbered.{all_numbered}
-use Rattle.granit_before.proofs.keys.lexemes_are_numbered.Goals as goal
-
-pub returns : goal.returns
-returns c = all_numbered

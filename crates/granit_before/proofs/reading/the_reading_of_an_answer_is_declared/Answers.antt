@@ -1,8 +1,0 @@
-use Rattle.granit_before.proofs.ReadingSaid.{answer_declared, declared_answer}
-use Rattle.granit_before.proofs.reading.the_reading_of_an_answer_is_declared.Goals as goal
-
-pub returns-clause-declared : goal.returns-clause-declared
-returns-clause-declared c = answer_declared
-
-pub returns-clause-answered : goal.returns-clause-answered
-returns-clause-answered c = declared_answer

@@ -1,5 +1,0 @@
-use Rattle.granit_before.proofs.TouchingSaid.{touching_said}
-use Rattle.granit_before.proofs.touching.values_stand_at_once_behind_closers_and_quotes.Goals as goal
-
-pub returns : goal.returns
-returns c = touching_said

@@ -1,0 +1,15 @@
+pub mod AloneStates
+pub mod AtStarts
+pub mod BoundaryTells
+pub mod DirectiveLines
+pub mod EmptyDocumentSteps
+pub mod FoundLaws
+pub mod FoundTells
+pub mod LineGaps
+pub mod Outer
+pub mod OuterSteps
+pub mod PastEnds
+pub mod StartReads
+pub mod TellsAnewLaws
+pub mod TextEnds
+pub mod TextTells

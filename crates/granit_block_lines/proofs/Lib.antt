@@ -1,0 +1,9 @@
+pub mod Columns
+pub mod Flats
+pub mod Keyed
+pub mod Lines
+pub mod Marks
+pub mod Passing
+pub mod Ready
+pub mod Signs
+pub mod Taking

@@ -1,0 +1,3 @@
+pub mod Asking
+pub mod BoundaryPlace
+pub mod Ending

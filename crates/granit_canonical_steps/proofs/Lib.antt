@@ -1,0 +1,15 @@
+pub mod Calm
+pub mod Flows
+pub mod Fronts
+pub mod Known
+pub mod Marks
+pub mod Names
+pub mod Naming
+pub mod Nodes
+pub mod Passing
+pub mod Places
+pub mod Quotes
+pub mod Quoting
+pub mod Signs
+pub mod Spelling
+pub mod Taking

@@ -1,0 +1,4 @@
+pub mod PlacementLaw
+pub mod GrowSteps
+pub mod GrowStream
+pub mod CommentsStand

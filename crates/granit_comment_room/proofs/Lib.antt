@@ -1,0 +1,2 @@
+pub mod RowRuns
+pub mod RowsFirst

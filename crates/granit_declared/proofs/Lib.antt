@@ -1,0 +1,11 @@
+pub mod Bracketed
+pub mod CauseSaid
+pub mod CertainSaid
+pub mod CommentsSaid
+pub mod FieldsSaid
+pub mod KeyFlags
+pub mod OneLine
+pub mod OuterKey
+pub mod OuterWhole
+pub mod ReadingSaid
+pub mod StillSaid

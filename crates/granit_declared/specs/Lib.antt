@@ -1,0 +1,2 @@
+pub mod DeclaredCause
+pub mod DeclaredReading

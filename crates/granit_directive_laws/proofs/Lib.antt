@@ -1,0 +1,4 @@
+pub mod DirectiveLaw
+pub mod FirstLaw
+pub mod FirstTag
+pub mod LineLaw

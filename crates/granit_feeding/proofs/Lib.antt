@@ -1,0 +1,4 @@
+pub mod BareSteps
+pub mod BareStream
+pub mod RoomSteps
+pub mod RoomStream

@@ -1,0 +1,4 @@
+pub mod ColumnCloses
+pub mod ColumnSteps
+pub mod FramesLaw
+pub mod FramesRun

@@ -1,5 +1,0 @@
-use Rattle.granit_grammar.proofs.Wholes.{whole_events}
-use Rattle.granit_grammar.proofs.whole.every_answer_is_a_reading.Goals as goal
-
-pub returns : goal.returns
-returns c = whole_events

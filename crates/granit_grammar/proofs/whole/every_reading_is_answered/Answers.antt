@@ -1,5 +1,0 @@
-use Rattle.granit_grammar.proofs.Wholes.{whole_streams}
-use Rattle.granit_grammar.proofs.whole.every_reading_is_answered.Goals as goal
-
-pub returns : goal.returns
-returns c = whole_streams

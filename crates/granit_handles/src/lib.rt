@@ -1,0 +1,2 @@
+//! Laws of the parameters of directives: versions, handles and prefixes.
+#![tactic(auto)]

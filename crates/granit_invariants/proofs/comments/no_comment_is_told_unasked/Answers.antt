@@ -1,5 +1,0 @@
-use Rattle.granit_invariants.proofs.CommentLaws.{none_told}
-use Rattle.granit_invariants.proofs.comments.no_comment_is_told_unasked.Goals as goal
-
-pub returns : goal.returns
-returns c = none_told

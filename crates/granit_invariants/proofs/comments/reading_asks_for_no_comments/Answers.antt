@@ -1,5 +1,0 @@
-use Rattle.granit_invariants.proofs.SameOptions.{lex_same}
-use Rattle.granit_invariants.proofs.comments.reading_asks_for_no_comments.Goals as goal
-
-pub returns : goal.returns
-returns c = lex_same

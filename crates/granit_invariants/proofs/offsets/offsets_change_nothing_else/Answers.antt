@@ -1,8 +1,0 @@
-use Rattle.granit_invariants.proofs.BareRun.{run_bare, runs_alike}
-use Rattle.granit_invariants.proofs.offsets.offsets_change_nothing_else.Goals as goal
-
-pub returns-clause-bare : goal.returns-clause-bare
-returns-clause-bare c = run_bare
-
-pub returns-clause-alike : goal.returns-clause-alike
-returns-clause-alike c = runs_alike

@@ -1,0 +1,4 @@
+pub mod Json
+pub mod JsonEvents
+pub mod JsonScalars
+pub mod JsonText

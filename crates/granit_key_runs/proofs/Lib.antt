@@ -1,0 +1,5 @@
+pub mod HeldLaw
+pub mod RunsKept
+pub mod RunsLaw
+pub mod RunsOnce
+pub mod RunsWhole

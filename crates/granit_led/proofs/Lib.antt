@@ -1,0 +1,11 @@
+pub mod EndWaits
+pub mod FoundMarks
+pub mod KeptDeclared
+pub mod KeptLaws
+pub mod KeptSteps
+pub mod KeptStream
+pub mod LedLaws
+pub mod MarkWaits
+pub mod StartWaits
+pub mod StartsRead
+pub mod ToldOnce

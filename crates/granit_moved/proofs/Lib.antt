@@ -1,0 +1,6 @@
+pub mod MovedEvents
+pub mod MovedReader
+pub mod MovedRun
+pub mod MovedSteps
+pub mod MovedStream
+pub mod MovedTurns

@@ -1,5 +1,0 @@
-use Rattle.granit_names.proofs.LineLaw.{whole_stands}
-use Rattle.granit_names.proofs.directives.every_directive_answer_stands.Goals as goal
-
-pub returns : goal.returns
-returns c = whole_stands

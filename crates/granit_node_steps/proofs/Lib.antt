@@ -1,0 +1,7 @@
+pub mod BlockBegins
+pub mod BlockNodes
+pub mod DoneCalms
+pub mod FlowFlats
+pub mod FlowNodes
+pub mod NodeTests
+pub mod PartSteps

@@ -1,0 +1,11 @@
+pub mod Choosing
+pub mod ColumnsKept
+pub mod ColumnsLaw
+pub mod ColumnsWhole
+pub mod Counting
+pub mod Holding
+pub mod KeysLaw
+pub mod Moving
+pub mod PlacesLaw
+pub mod Signs
+pub mod Telling

@@ -1,0 +1,9 @@
+pub mod CommentLaws
+pub mod EndTelling
+pub mod Quieting
+pub mod QuietSteps
+pub mod QuietStream
+pub mod SameOptions
+pub mod Telling
+pub mod TellSteps
+pub mod TellStream

@@ -1,0 +1,12 @@
+pub mod EscapeCauses
+pub mod QuotedCauses
+pub mod QuotedFolding
+pub mod QuotedForms
+pub mod QuotedGaps
+pub mod QuotedKept
+pub mod QuotedLaw
+pub mod QuotedOnce
+pub mod QuotedReads
+pub mod QuotedRuns
+pub mod QuotedTail
+pub mod Verbatim

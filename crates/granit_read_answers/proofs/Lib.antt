@@ -1,0 +1,4 @@
+pub mod Misspelt
+pub mod ParserSources
+pub mod Refused
+pub mod Sources

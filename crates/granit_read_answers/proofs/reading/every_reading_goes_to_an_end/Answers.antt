@@ -1,0 +1,5 @@
+use Rattle.granit_reading.proofs.ReadingLaw.{lexed}
+use Rattle.granit_read_answers.proofs.reading.every_reading_goes_to_an_end.Goals as goal
+
+pub returns : goal.returns
+returns c = λ o h items t e. (lexed o h items t e).ends

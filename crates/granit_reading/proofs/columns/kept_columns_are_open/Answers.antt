@@ -1,5 +1,0 @@
-use Rattle.granit_reading.proofs.ColumnsWhole.{columns_said}
-use Rattle.granit_reading.proofs.columns.kept_columns_are_open.Goals as goal
-
-pub returns : goal.returns
-returns c = columns_said

@@ -1,8 +1,0 @@
-use Rattle.granit_reading.proofs.KeysLaw.{keys_fit, lines_fit}
-use Rattle.granit_reading.proofs.fitting.flagged_lexemes_fit.Goals as goal
-
-pub returns-clause-keys : goal.returns-clause-keys
-returns-clause-keys c = keys_fit
-
-pub returns-clause-lines : goal.returns-clause-lines
-returns-clause-lines c = lines_fit

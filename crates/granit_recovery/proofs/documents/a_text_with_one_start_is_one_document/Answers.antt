@@ -1,6 +1,0 @@
-use Rattle.granit_recovery.proofs.OneLaws.{stand_one}
-use Rattle.granit_recovery.proofs.TidyLaws.{begun_strict}
-use Rattle.granit_recovery.proofs.documents.a_text_with_one_start_is_one_document.Goals as goal
-
-pub returns : goal.returns
-returns c o h count es f gives n = stand_one es (begun_strict o h count es f gives) n

@@ -1,5 +1,0 @@
-use Rattle.granit_recovery.proofs.OneLaws.{strict_one}
-use Rattle.granit_recovery.proofs.documents.at_most_one_start_is_one_document.Goals as goal
-
-pub returns : goal.returns
-returns c = strict_one

@@ -1,5 +1,0 @@
-use Rattle.granit_recovery.proofs.DropLaws.{fault_drops}
-use Rattle.granit_recovery.proofs.dropping.a_fault_drops_its_document.Goals as goal
-
-pub returns : goal.returns
-returns c = fault_drops

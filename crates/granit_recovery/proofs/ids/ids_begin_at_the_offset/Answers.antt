@@ -1,5 +1,0 @@
-use Rattle.granit_recovery.proofs.OffsetLaws.{begun_from}
-use Rattle.granit_recovery.proofs.ids.ids_begin_at_the_offset.Goals as goal
-
-pub returns : goal.returns
-returns c = begun_from

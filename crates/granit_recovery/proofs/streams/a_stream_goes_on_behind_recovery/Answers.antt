@@ -1,5 +1,0 @@
-use Rattle.granit_recovery.proofs.RecoveryLaws.{recovered_goes_on}
-use Rattle.granit_recovery.proofs.streams.a_stream_goes_on_behind_recovery.Goals as goal
-
-pub returns : goal.returns
-returns c = recovered_goes_on

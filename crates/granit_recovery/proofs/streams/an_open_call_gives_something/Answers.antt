@@ -1,5 +1,0 @@
-use Rattle.granit_recovery.proofs.LeftLaws.{open_gives}
-use Rattle.granit_recovery.proofs.streams.an_open_call_gives_something.Goals as goal
-
-pub returns : goal.returns
-returns c = open_gives

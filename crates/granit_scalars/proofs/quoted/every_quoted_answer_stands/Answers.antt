@@ -1,5 +1,0 @@
-use Rattle.granit_scalars.proofs.QuotedLaw.{quoted_standing}
-use Rattle.granit_scalars.proofs.quoted.every_quoted_answer_stands.Goals as goal
-
-pub returns : goal.returns
-returns c = quoted_standing

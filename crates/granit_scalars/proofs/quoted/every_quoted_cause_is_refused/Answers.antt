@@ -1,5 +1,0 @@
-use Rattle.granit_scalars.proofs.QuotedCauses.{quoted_cause_refused}
-use Rattle.granit_scalars.proofs.quoted.every_quoted_cause_is_refused.Goals as goal
-
-pub returns : goal.returns
-returns c = quoted_cause_refused

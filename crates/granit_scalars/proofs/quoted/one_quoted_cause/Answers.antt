@@ -1,5 +1,0 @@
-use Rattle.granit_scalars.proofs.QuotedCauses.{one_quoted_cause}
-use Rattle.granit_scalars.proofs.quoted.one_quoted_cause.Goals as goal
-
-pub returns : goal.returns
-returns c = one_quoted_cause

@@ -1,5 +1,0 @@
-use Rattle.granit_scalars.proofs.QuotedLines.{line_alone}
-use Rattle.granit_scalars.proofs.quoted_lines.quoted_scalars_on_one_line.Goals as goal
-
-pub returns : goal.returns
-returns c = line_alone

@@ -1,5 +1,0 @@
-use Rattle.granit_shifted.proofs.KeptDeclared.{led_declared}
-use Rattle.granit_shifted.proofs.led.handles_that_stay_were_declared.Goals as goal
-
-pub returns : goal.returns
-returns c = led_declared

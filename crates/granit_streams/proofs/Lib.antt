@@ -1,0 +1,4 @@
+pub mod Nesting
+pub mod StepNesting
+pub mod StreamLaws
+pub mod StreamNesting

@@ -1,0 +1,12 @@
+pub mod Arrivals
+pub mod Closes
+pub mod Dashes
+pub mod DoneSteps
+pub mod Ends
+pub mod Lookups
+pub mod MoreSteps
+pub mod Pops
+pub mod Sorts
+pub mod Standing
+pub mod Views
+pub mod Wants

@@ -1,0 +1,9 @@
+pub mod Beginning
+pub mod Completing
+pub mod OneFault
+pub mod OneWhole
+pub mod Prefixes
+pub mod Taken
+pub mod Undeclared
+pub mod Viable
+pub mod Wholes
