@@ -5,10 +5,13 @@ use Rattle.granit_language.specs.Room.{Room, RightOf, ValueIn, KeyIn, BehindKey,
 use Rattle.granit_language.specs.Scope.{Scope}
 use Rattle.granit_language.specs.Scoping.{next_scope}
 use Rattle.granit_language.specs.Terminal.{Terminal, text_start}
-use Rattle.granit_event_machine.specs.EventMachine.{Key, KeyDone, Done, Value, OpenFrame, DocumentFrame, PropertiesFrame}
+use Rattle.granit_event_machine.specs.EventMachine.{Key, KeyDone, Done, Value, OpenFrame, DocumentFrame}
+use Rattle.granit_event_machine.specs.EventMachine.{PropertiesFrame}
 use Rattle.granit_event_machine.specs.EventMachine.{SequenceFrame, MappingFrame, FlowSequenceFrame, FlowMappingFrame}
-use Rattle.granit_event_machine.specs.EventMachine.{FlowPairFrame, EventState, IsFresh, HasDirectives, IsRooted, InFrames}
-use Rattle.granit_event_machine.specs.EventMachine.{IsEnded, EventStep, GoesTo, StopsWith, ended_by, frames_room, put_frames}
+use Rattle.granit_event_machine.specs.EventMachine.{FlowPairFrame, EventState, IsFresh, HasDirectives, IsRooted}
+use Rattle.granit_event_machine.specs.EventMachine.{InFrames}
+use Rattle.granit_event_machine.specs.EventMachine.{IsEnded, EventStep, GoesTo, StopsWith, ended_by, frames_room}
+use Rattle.granit_event_machine.specs.EventMachine.{put_frames}
 use Rattle.granit_views.specs.Fair.{FairBehind, FairMade, FairIn, FairAt, FairFinish, Fair, frames_below}
 use Rattle.granit_agreement.specs.FairTest.{same_test, fair_behind, fair_made, fair_in, fair_at, fair_finish, fair_step}
 use Rattle.granit_agreement.specs.FairTest.{fair_next, fair_run}

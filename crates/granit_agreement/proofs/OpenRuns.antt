@@ -13,8 +13,10 @@ use Rattle.granit_agreement.proofs.WholeRuns.{told_append, give_told, seen_given
 use Rattle.granit_agreement.proofs.WholeRuns.{seen_cleared, knows_cleared, fault_passed, none_stay}
 use Rattle.granit_frame_steps.proofs.WholeSteps.{step_next}
 use Rattle.granit_language.specs.Seen.{Flagged, terminal_of, terminal_seen}
-use Rattle.granit_event_machine.specs.EventMachine.{EventState, IsFresh, HasDirectives, IsRooted, InFrames, IsEnded, Ending}
-use Rattle.granit_event_machine.specs.EventMachine.{ending, ended_by, EventStep, GoesTo, StopsWith, after_events, take_frames}
+use Rattle.granit_event_machine.specs.EventMachine.{EventState, IsFresh, HasDirectives, IsRooted, InFrames, IsEnded}
+use Rattle.granit_event_machine.specs.EventMachine.{Ending}
+use Rattle.granit_event_machine.specs.EventMachine.{ending, ended_by, EventStep, GoesTo, StopsWith, after_events}
+use Rattle.granit_event_machine.specs.EventMachine.{take_frames}
 use Rattle.granit_event_machine.specs.Guarded.{state_count, is_loose}
 use Rattle.granit_event_machine.specs.PlaceFrames.{state_at}
 use Rattle.granit_grammar.specs.TreeMachine.{NextPlace, take, TreeAnswer, ReadAs, RefusedAt, Short, at_end, tree_goes}

@@ -21,7 +21,8 @@ use Rattle.granit_lexemes.specs.PlainEvent.{PlainEvent, StreamStart, event_on}
 use Rattle.granit_whole.proofs.Wholes.{whole_events, whole_streams, whole_faults, whole_never_unfinished, Starts}
 use Rattle.granit_whole.proofs.Wholes.{whole_viable}
 use Rattle.granit_event_machine.proofs.Guards.{NotFaulty}
-use Rattle.granit_whole.proofs.OneWhole.{viable_blocked, whole_faults_told}
+use Rattle.granit_whole.proofs.OneWhole.{whole_faults_told}
+pub use Rattle.granit_whole.proofs.OneWhole.{viable_blocked}
 use Rattle.granit_agreement.proofs.WholeRuns.{run_agrees}
 
 abbrev Guards : OptionsData → List Terminal → EventAnswer

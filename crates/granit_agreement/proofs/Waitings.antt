@@ -4,8 +4,10 @@ use Rattle.granit_views.specs.View.{item_of, waiting_of}
 use Rattle.granit_agreement.proofs.OpenRuns.{waiting_in, Leaves, fed_left}
 use Rattle.granit_language.specs.Awaiting.{PairWaits, WaitsIn, AwaitsNode}
 use Rattle.granit_language.specs.Seen.{Flagged, terminal_seen}
-use Rattle.granit_event_machine.specs.EventMachine.{PairAt, Key, KeyDone, Asking, AskDone, Done, Value, EventState, IsFresh}
-use Rattle.granit_event_machine.specs.EventMachine.{HasDirectives, IsRooted, InFrames, IsEnded, Ending, ending, ended_by}
+use Rattle.granit_event_machine.specs.EventMachine.{PairAt, Key, KeyDone, Asking, AskDone, Done, Value, EventState}
+use Rattle.granit_event_machine.specs.EventMachine.{IsFresh}
+use Rattle.granit_event_machine.specs.EventMachine.{HasDirectives, IsRooted, InFrames, IsEnded, Ending, ending}
+use Rattle.granit_event_machine.specs.EventMachine.{ended_by}
 use Rattle.granit_event_machine.specs.EventMachine.{EventStep, GoesTo, StopsWith, after_events, take_frames, FlowSite}
 use Rattle.granit_event_machine.specs.EventMachine.{pair_frames}
 use Rattle.granit_event_machine.specs.PlaceFrames.{site_in, hole_frames, pair_made, state_at}

@@ -4,8 +4,10 @@ use Rattle.granit_views.specs.Running.{Knows, ParserSeen, ComesTo, NextView, Fai
 use Rattle.granit_views.specs.Stepping.{taken, at_kind}
 use Rattle.granit_views.specs.View.{Beside, item_of, state_of, give_all}
 use Rattle.granit_language.specs.Seen.{Flagged, terminal_of, terminal_seen}
-use Rattle.granit_event_machine.specs.EventMachine.{EventState, IsFresh, HasDirectives, IsRooted, InFrames, IsEnded, Ending}
-use Rattle.granit_event_machine.specs.EventMachine.{ending, ended_by, EventStep, GoesTo, StopsWith, after_events, take_frames}
+use Rattle.granit_event_machine.specs.EventMachine.{EventState, IsFresh, HasDirectives, IsRooted, InFrames, IsEnded}
+use Rattle.granit_event_machine.specs.EventMachine.{Ending}
+use Rattle.granit_event_machine.specs.EventMachine.{ending, ended_by, EventStep, GoesTo, StopsWith, after_events}
+use Rattle.granit_event_machine.specs.EventMachine.{take_frames}
 use Rattle.granit_event_machine.specs.EventMachine.{EventAnswer, Events, Faulty, Unfinished, events_before}
 use Rattle.granit_event_machine.specs.Guarded.{Guard, passed, goes_by, closed_by, guarded, first_fault, fault_unless}
 use Rattle.granit_event_machine.specs.Guarded.{state_count, is_loose, whole_guard}

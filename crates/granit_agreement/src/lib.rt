@@ -7,5 +7,8 @@ mod runs;
 mod steps;
 
 pub use fair::texts_are_fair;
-pub use runs::{a_node_waits_behind_an_indicator, every_run_agrees, what_is_given_is_before_the_open_place, what_is_parsed_is_a_reading};
+pub use runs::{
+    a_node_waits_behind_an_indicator, every_run_agrees, what_is_given_is_before_the_open_place,
+    what_is_parsed_is_a_reading,
+};
 pub use steps::{every_step_agrees, what_a_lexeme_ends};

@@ -5,8 +5,8 @@ use Rattle.granit_alone.proofs.CallSteps.{behind, fault_comes, front, none_comes
 use Rattle.granit_alone.proofs.CallSteps.{told_none}
 use Rattle.granit_alone.specs.Alone.{BeginsAlone, CausedAlone, ReadsAlone, stream_start}
 use Rattle.granit_alone.specs.Behind.{GivesAlone, GivesEnd, IsOpen, TellsRest, TellsRestAlone}
-use Rattle.granit_answers.proofs.CommentsCaused.{any_fault_caused}
-use Rattle.granit_answers.proofs.OneCause.{answer_reads}
+pub use Rattle.granit_answers.proofs.CommentsCaused.{any_fault_caused}
+pub use Rattle.granit_answers.proofs.OneCause.{answer_reads}
 use Rattle.granit_declared.proofs.CauseSaid.{cause_declared}
 use Rattle.granit_declared.proofs.ReadingSaid.{answer_declared}
 use Rattle.granit_declared.specs.DeclaredCause.{DeclaredCause}
@@ -17,14 +17,14 @@ use Rattle.granit_lexemes.specs.Outcome.{Fault}
 use Rattle.granit_lexemes.specs.PlainEvent as events
 use Rattle.granit_lexemes.specs.PlainEvent.{EventKind, event_on, PlainEvent}
 use Rattle.granit_machine.specs.Machine.{run}
-use Rattle.granit_read_answers.proofs.ParserSources.{run_none}
+use Rattle.granit_answers.proofs.CommentsCaused.{run_none}
 use Rattle.granit_ids.proofs.TidyLaws.{begun_ends}
 use Rattle.granit_recovery.specs.Streams.{CallsGive}
 use Rattle.granit_restart.specs.Calls.{Calls, next_call}
 use Rattle.granit_led.specs.Alone.{behind_first, TellsMoved, TellsEnd}
 use Rattle.granit_shifted.specs.Shift.{Shift, moved_event, moved_events, moved_fault, moved_fault_of, moved_kind}
 use Rattle.granit_steps.proofs.StepLaws.{run_told, steps_tell}
-use Rattle.granit_streams.proofs.StreamLaws.{run_is_stream, told_begins}
+use Rattle.granit_recovery.proofs.SkipLaws.{run_is_stream, told_begins}
 use Rattle.granit_steps.specs.Levels.{BeginsStream, IsStream, stream_levels}
 use Rattle.granit_steps.specs.Steps.{steps_start}
 use Rattle.granit_steps.specs.Told.{answer, GivesEvents, told_of}

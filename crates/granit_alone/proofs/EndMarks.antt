@@ -1,4 +1,9 @@
 -- A `...` that was read and not used is the last item that was, and reading stands at the end of its line.
+pub use Rattle.granit_led.proofs.FoundMarks.{cursor_there, found_waiting}
+pub use Rattle.granit_led.proofs.StartWaits.{StartLast}
+pub use Rattle.granit_led.proofs.StartsRead.{any_starts, is_start, starts}
+pub use Rattle.granit_led.proofs.MarkWaits.{none_waits, one_waits}
+pub use Rattle.granit_led.proofs.ToldOnce.{told_alone}
 use Rattle.std.proofs.Common.{◌≡◌, ℕ, ◌||◌, ◌&&◌, ◌==◌, not, Bool, true, false, List, [], ◌∷◌, ◌++◌, length, Option}
 use Rattle.std.proofs.Common.{Some, None, Ok, refl, sym, ap, subst, ◌∙◌, drop}
 use Rattle.std.proofs.Math.Bool.{and-false}
@@ -32,19 +37,19 @@ use Rattle.granit_machine.specs.Lexing.{FlaggedItem}
 use Rattle.granit_machine.specs.NodeLexemes.{note_items}
 use Rattle.granit_machine.specs.Reader.{LexState, read}
 use Rattle.granit_machine.specs.ReaderState.{ReaderState}
-use Rattle.granit_reading.proofs.Answering.{Answers}
-use Rattle.granit_reading.proofs.ReadingLaw.{read-is, ReadsBy}
-use Rattle.granit_places.proofs.Telling.{SaysOf, telling}
+use Rattle.granit_behind.proofs.TextEnds.{Answers}
+use Rattle.granit_behind.proofs.TextEnds.{read-is, ReadsBy}
+use Rattle.granit_led.proofs.StartsRead.{SaysOf, telling}
 use Rattle.granit_restart.proofs.MarkLaws.{items, MarksSettled}
 use Rattle.granit_restart.proofs.MarkReads.{is_mark}
 use Rattle.granit_restart.specs.Boundary.{AtStart, AtTextEnd, Boundary, next_boundary, PastEnd}
 use Rattle.granit_restart.specs.NextBoundary.{IsLineEnd}
 use Rattle.granit_restart.specs.Restart.{at_boundary, at_found, at_lexeme, behind_fault, behind_fault_at, cursor_at}
 use Rattle.granit_restart.specs.Restart.{is_boundary, read_boundary}
-use Rattle.granit_behind.proofs.FoundLaws.{led_holds}
+pub use Rattle.granit_behind.proofs.FoundLaws.{led_holds}
 use Rattle.granit_led.proofs.FoundMarks.{cursor_waiting}
 use Rattle.granit_led.proofs.MarkWaits as waiting
-use Rattle.granit_led.proofs.MarkWaits.{any_of, none_in, none_waits, one_in, OneIn, WaitsLast}
+use Rattle.granit_led.proofs.MarkWaits.{any_of, none_in, one_in, OneIn, WaitsLast}
 use Rattle.granit_led.proofs.StartsRead.{or_false}
 use Rattle.granit_led.specs.Led.{Led, led_anew, led_keeping, led_on, led_start, led_with}
 use Rattle.granit_steps.specs.Steps.{is_open_comment, step_turn, StepState, Turn}

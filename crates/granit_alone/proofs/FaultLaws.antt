@@ -1,4 +1,6 @@
 -- Behind a fault that was given recovery leads to where the text that is left is read as its own.
+pub use Rattle.granit_behind.proofs.TextEnds.{ReadsEnd, end_is_read}
+pub use Rattle.granit_behind.proofs.LineGaps.{laid_at}
 use Rattle.std.proofs.Common.{◌≡◌, ◌||◌, ◌&&◌, ◌+◌, ℕ, suc, Bool, true, false, List, [], ◌∷◌, ◌++◌, Option, Some, None}
 use Rattle.std.proofs.Common.{Result, Ok, Err, refl, sym, ap, ◌∙◌, subst}
 use Rattle.std.specs.Prelude.{if◌then◌else◌, is_some}
@@ -32,7 +34,8 @@ use Rattle.granit_restart.specs.Restart.{at_boundary, at_found, at_lexeme, behin
 use Rattle.granit_restart.specs.Restart.{read_boundary}
 use Rattle.granit_restart.specs.Skipping.{Ended, Failed, restarted, skip_by_turns, SkipEnd, skipped_fault, Stops}
 use Rattle.granit_behind.proofs.FoundTells.{found_boundary, found_tells}
-use Rattle.granit_led.proofs.LedLaws.{next_led, recover_led, skip_led, SkipLed}
+use Rattle.granit_led.proofs.LedLaws.{next_led, recover_led}
+pub use Rattle.granit_led.proofs.LedLaws.{SkipLed, skip_led}
 use Rattle.granit_led.specs.Alone.{alone_told, anew_told, shift_from, shift_to, TellsBehind, TellsItsText}
 use Rattle.granit_led.specs.Alone.{TellsLeft}
 use Rattle.granit_led.specs.Led.{Led, led_anew, led_keeping, led_on, led_start, led_with, TellsFound, TellsMark}

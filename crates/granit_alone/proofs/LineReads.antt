@@ -31,8 +31,8 @@ use Rattle.granit_machine.specs.LexemeSort.{QuestionSign, QuoteSign, StartMark, 
 use Rattle.granit_machine.specs.LexemeSort.{Unprintable}
 use Rattle.granit_machine.specs.Reader.{read}
 use Rattle.granit_machine.specs.ReaderState.{ReaderState}
-use Rattle.granit_reading.proofs.Answering.{Answers}
-use Rattle.granit_reading.proofs.ReadingLaw.{read-is, ReadsBy}
+use Rattle.granit_behind.proofs.TextEnds.{Answers}
+use Rattle.granit_behind.proofs.TextEnds.{read-is, ReadsBy}
 use Rattle.granit_behind.proofs.BoundaryTells.{IsCounted, mark_counted, step_counted, stepped, steps_counted}
 
 over_counted : (cs : List ℕ) (h : Here) → IsCounted h → IsCounted (over cs h)

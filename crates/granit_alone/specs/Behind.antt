@@ -1,5 +1,8 @@
 -- What calls give behind a recovery: the text from a boundary on is read as a text of its own, or where handles stay
 -- from before, as it is behind a text that declares them anew.
+pub use Rattle.granit_led.specs.Alone.{TellsMoved, behind_first}
+pub use Rattle.granit_led.specs.Stopping.{DropFits, EndFits, FaultFits, FitBehind, StopsFit, looked_at}
+pub use Rattle.granit_led.specs.Led.{Led, led_anew, led_keeping, led_on, led_start, led_with}
 use Rattle.std.specs.Prelude.{◌≡◌, ℕ, suc, false, List, [], ◌∷◌, ◌++◌, Option, Some, None, Err}
 use Rattle.granit_alone.specs.Alone.{BeginsAlone, CausedAlone, ReadsAlone, stream_start}
 use Rattle.granit_declared.specs.DeclaredCause.{DeclaredCause}
@@ -16,9 +19,9 @@ use Rattle.granit_restart.specs.Calls.{Calls, next_call}
 use Rattle.granit_restart.specs.NextBoundary.{IsLineEnd}
 use Rattle.granit_restart.specs.Restart.{behind_fault, cursor_at, read_boundary}
 use Rattle.granit_restart.specs.Skipping.{Ended, Failed, skip_by_turns, Stops}
-use Rattle.granit_led.specs.Alone.{behind_first, HandlesStay, NoneStays, shift_from, shift_to, TellsBehind}
+use Rattle.granit_led.specs.Alone.{HandlesStay, NoneStays, shift_from, shift_to, TellsBehind}
 use Rattle.granit_led.specs.Declaring.{behind_documents, DeclaresAnew, EmptyDocuments}
-use Rattle.granit_led.specs.Found.{StartRead}
+pub use Rattle.granit_led.specs.Found.{StartRead}
 use Rattle.granit_shifted.specs.Shift.{moved_events, moved_fault, moved_fault_of, Shift}
 use Rattle.granit_steps.specs.Levels.{BeginsStream, IsStream}
 use Rattle.granit_steps.specs.Steps.{StepState}

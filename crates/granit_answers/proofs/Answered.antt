@@ -2,11 +2,11 @@
 use Rattle.std.proofs.Common.{◌≡◌, ℕ, Bool, true, false, List, [], ◌∷◌, ◌++◌, map, Option, Some, None, Result, Ok, Err}
 use Rattle.std.proofs.Common.{refl, sym, ap, ap₂, ◌∙◌, subst}
 use Rattle.granit_error.specs.OptionsData.{OptionsData}
-use Rattle.granit_views.specs.Running.{FairRun, GivesTold}
-use Rattle.granit_views.specs.View.{item_of}
+use Rattle.granit_order.specs.Order.{FairRun, GivesTold}
+use Rattle.granit_order.specs.Order.{item_of}
 use Rattle.granit_language.specs.Seen.{Flagged, terminal_seen, terminal_of, lexemes_flagged, read_lexemes, terminals_of}
 use Rattle.granit_agreement.proofs.Parsed.{parsed_events, readings_parsed}
-use Rattle.granit_event_machine.specs.EventMachine.{IsFresh}
+use Rattle.granit_order.specs.Order.{IsFresh}
 use Rattle.granit_language.specs.Reached.{EndsBy, Reached}
 use Rattle.granit_language.specs.Scope.{Scope, no_scope}
 use Rattle.granit_language.specs.Scoping.{next_scope}
@@ -27,8 +27,9 @@ use Rattle.granit_machine.specs.Lexing.{lex}
 use Rattle.granit_machine.specs.Machine.{asked_items, feed_all, is_settled, front_if, settled, run_answer, run}
 use Rattle.granit_machine.specs.Reader.{LexState, is_end}
 use Rattle.granit_machine.specs.ReaderState.{reader_start}
-use Rattle.granit_reading.proofs.ReadingLaw.{lexed, lex_answers}
-use Rattle.granit_quiet.proofs.CommentLaws.{Lexed, answer_to}
+use Rattle.granit_read_answers.proofs.Misspelt.{lexed}
+use Rattle.granit_read_answers.proofs.ParserSources.{lex_answers}
+use Rattle.granit_order.proofs.BracketsKept.{Lexed, answer_to}
 use Rattle.granit_order.specs.Order.{EndsThere, OrderedFrom, open_behind, due_behind, may_follow}
 use Rattle.granit_order.proofs.OrderSteps.{ordered_fair, make_order}
 use Rattle.granit_order.proofs.BracketsKept.{brackets_kept}
@@ -294,4 +295,3 @@ settled_order l (f ∷ fs) s bs due may p =
 
 pub one_answer : (r : Result (List PlainEvent) Fault) (es ds : List PlainEvent) → r ≡ Ok es → r ≡ Ok ds → es ≡ ds
 one_answer r es ds a b = cc
-

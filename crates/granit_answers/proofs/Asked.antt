@@ -3,10 +3,10 @@ use Rattle.std.proofs.Common.{◌≡◌, ℕ, Bool, true, false, List, ◌∷◌
 use Rattle.std.proofs.Common.{◌∙◌}
 use Rattle.std.specs.Prelude.{is_none}
 use Rattle.granit_error.specs.OptionsData.{OptionsData}
-use Rattle.granit_quiet.specs.Quiet.{but_comments}
-use Rattle.granit_comment_room.specs.RefusedRows.{NoRow}
-use Rattle.granit_quiet.proofs.CommentLaws.{Lexed, answer_to, none_told, run_given, run_same, settled_asked}
-use Rattle.granit_comment_room.proofs.RowsFirst.{Alike, fed_alike}
+use Rattle.granit_order.specs.Answers.{but_comments}
+use Rattle.granit_comment_places.specs.CommentPlaces.{NoRow}
+use Rattle.granit_order.proofs.BracketsKept.{Lexed, answer_to, none_told, run_given, run_same, settled_asked}
+use Rattle.granit_comment_places.proofs.CommentsStand.{Alike, fed_alike}
 use Rattle.granit_language.specs.TextFault.{NoneTold}
 use Rattle.granit_lexemes.specs.Here.{start_of, mark_of}
 use Rattle.granit_lexemes.specs.Lexeme.{Item}

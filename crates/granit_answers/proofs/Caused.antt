@@ -3,12 +3,12 @@ use Rattle.std.proofs.Common.{◌≡◌, ℕ, Bool, true, false, not, List, [], 
 use Rattle.std.proofs.Common.{Err, inl, inr, refl, sym, ap, ap₂, ◌∙◌, subst}
 use Rattle.std.specs.Prelude.{is_none}
 use Rattle.granit_error.specs.OptionsData.{OptionsData}
-use Rattle.granit_quiet.proofs.CommentLaws.{Lexed, answer_to}
-use Rattle.granit_views.specs.View.{item_of}
+use Rattle.granit_order.proofs.BracketsKept.{Lexed, answer_to}
+use Rattle.granit_order.specs.Order.{item_of}
 use Rattle.granit_agreement.proofs.Parsed.{parsed_faults, parsed_viable, faults_parsed, viable_parsed}
-use Rattle.granit_event_machine.specs.EventMachine.{IsFresh}
-use Rattle.granit_views.specs.Running.{FairRun}
-use Rattle.granit_whole.proofs.OneWhole.{viable_blocked}
+use Rattle.granit_order.specs.Order.{IsFresh}
+use Rattle.granit_order.specs.Order.{FairRun}
+use Rattle.granit_agreement.proofs.Parsed.{viable_blocked}
 use Rattle.granit_language.specs.Reached.{ReadRefused, ReadStopped, ReadWhole, EndsBy}
 use Rattle.granit_language.specs.Scope.{no_scope}
 use Rattle.granit_language.specs.Seen.{Flagged, terminal_seen, read_lexemes}
@@ -27,10 +27,10 @@ use Rattle.granit_machine.specs.Machine.{asked_items, feed_all, settled, run_ans
 use Rattle.granit_machine.specs.PossibleKeys.{is_possible}
 use Rattle.granit_machine.specs.Reader.{read, LexState}
 use Rattle.granit_machine.specs.ReaderState.{ReaderState, reader_start}
-use Rattle.granit_reading.proofs.ReadingLaw.{lexed}
+use Rattle.granit_read_answers.proofs.Misspelt.{lexed}
 use Rattle.granit_read_answers.proofs.Sources.{Nameless, lex_none}
 use Rattle.granit_read_answers.proofs.Misspelt.{cause_refused}
-use Rattle.granit_reading.proofs.WholeLaw.{lexed_whole, all_read_whole, one_whole}
+use Rattle.granit_read_answers.proofs.Misspelt.{lexed_whole, all_read_whole, one_whole}
 use Rattle.granit_answers.proofs.Answered.{asked_are, Bare, bare_is, in_order, fair, Fed, Shown, shown_fault}
 use Rattle.granit_answers.proofs.Answered.{front_flagged, settled_front, settled_are, settled_order}
 use Rattle.granit_answers.proofs.Asked.{same_fault}

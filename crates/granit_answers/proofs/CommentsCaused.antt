@@ -1,11 +1,12 @@
 -- Why a text is refused, whether comments are asked for or not.
+pub use Rattle.granit_read_answers.proofs.ParserSources.{run_none}
 use Rattle.std.proofs.Common.{◌≡◌, ℕ, Bool, true, false, List, Option, Some, None, Result, Ok, Err, ◌⊎◌, inl, inr, refl}
 use Rattle.std.proofs.Common.{sym, ap, ◌∙◌}
 use Rattle.std.specs.Prelude.{is_none}
 use Rattle.granit_error.specs.OptionsData.{OptionsData}
-use Rattle.granit_comment_room.specs.RefusedRows.{NoRow, FirstRow}
-use Rattle.granit_quiet.proofs.CommentLaws.{items_given}
-use Rattle.granit_comment_room.proofs.RowsFirst.{first_refused, none_given, row_refuses}
+use Rattle.granit_comment_places.specs.CommentPlaces.{NoRow, FirstRow}
+use Rattle.granit_order.proofs.BracketsKept.{items_given}
+use Rattle.granit_comment_places.proofs.CommentsStand.{first_refused, none_given, row_refuses}
 use Rattle.granit_language.specs.TextFault.{OfComments, WholeCause}
 use Rattle.granit_lexemes.specs.Here.{start_of}
 use Rattle.granit_lexemes.specs.Lexeme.{Item}
@@ -16,8 +17,8 @@ use Rattle.granit_machine.specs.Lexing.{FlaggedItem, flagged, lex}
 use Rattle.granit_machine.specs.Machine.{asked_items, feed_all, settled, run}
 use Rattle.granit_machine.specs.Reader.{LexState}
 use Rattle.granit_machine.specs.ReaderState.{ReaderState}
-use Rattle.granit_reading.proofs.ReadingLaw.{lex_answers}
-use Rattle.granit_reading.proofs.WholeLaw.{all_read_whole}
+use Rattle.granit_read_answers.proofs.ParserSources.{lex_answers}
+pub use Rattle.granit_read_answers.proofs.Misspelt.{all_read_whole}
 use Rattle.granit_answers.proofs.Answered.{Bare, bare_run, Shown, shown_fault}
 use Rattle.granit_answers.proofs.Asked.{failed, Asked, asked_run, asked_to_end, asked_stopped, bare_to_end}
 use Rattle.granit_answers.proofs.Asked.{bare_failed}

@@ -2,15 +2,15 @@
 use Rattle.std.proofs.Common.{◌≡◌, ℕ, Bool, true, List, [], ◌∷◌, ◌++◌, map, Option, Some, None, Ok, Err, refl, sym, ap}
 use Rattle.std.proofs.Common.{◌∙◌, subst, append_assoc}
 use Rattle.granit_error.specs.OptionsData.{OptionsData}
-use Rattle.granit_views.specs.View.{item_of}
+use Rattle.granit_order.specs.Order.{item_of}
 use Rattle.granit_agreement.proofs.OpenRuns.{Left, fed_left}
 use Rattle.granit_agreement.proofs.Waitings.{place_empty}
-use Rattle.granit_quiet.specs.CommentEvents.{comment_event}
+use Rattle.granit_order.specs.Answers.{comment_event}
 use Rattle.granit_comment_places.specs.CommentPlaces.{StandsBehind, directly, behind_empty, before_start, StandsAmong}
 use Rattle.granit_comment_places.specs.CommentPlaces.{tail_event}
-use Rattle.granit_quiet.specs.Quiet.{but_comments}
+use Rattle.granit_order.specs.Answers.{but_comments}
 use Rattle.granit_comment_places.proofs.CommentsStand.{comment_stands, tail_stands}
-use Rattle.granit_quiet.proofs.EndTelling.{none_waits_behind}
+use Rattle.granit_order.proofs.BracketsKept.{none_waits_behind}
 use Rattle.granit_language.specs.OpenTold.{ToldBefore}
 use Rattle.granit_language.specs.Scope.{no_scope}
 use Rattle.granit_language.specs.Scoping.{scoped}

@@ -17,7 +17,7 @@ use Rattle.granit_machine.specs.LexemeSort.{StrayMark, NoSign, LexemeSort, TextE
 use Rattle.granit_machine.specs.LexemeSort.{Unprintable, Placed}
 use Rattle.granit_machine.specs.PossibleKeys.{top_key}
 use Rattle.granit_machine.specs.ReaderState.{ReaderState, reader_start}
-use Rattle.granit_places.proofs.ColumnsWhole.{latest_joined}
+use Rattle.granit_order.proofs.BracketsKept.{latest_joined}
 use Rattle.granit_answers.specs.CutShort.{CutShort, LastCut}
 
 -- ---- what is kept and what is forgotten

@@ -21,10 +21,11 @@ use Rattle.granit_machine.specs.LexemeSort.{PlainSign, LexemeSort, TextEnd, Star
 use Rattle.granit_machine.specs.LexemeSort.{Unprintable, Placed}
 use Rattle.granit_machine.specs.NodeLexemes.{note_items}
 use Rattle.granit_machine.specs.ReaderState.{ReaderState, reader_start}
-use Rattle.granit_places.proofs.ColumnsKept.{OpenSays}
-use Rattle.granit_places.proofs.ColumnsLaw.{front_flow, some_of, cols}
-use Rattle.granit_places.proofs.ColumnsWhole.{agrees_said, fresh_said, reads_said}
-use Rattle.granit_places.proofs.Telling.{SaysOf, gap_agrees, telling}
+use Rattle.granit_order.proofs.BracketsKept.{OpenSays}
+use Rattle.granit_order.proofs.BracketsKept.{front_flow, some_of, cols}
+use Rattle.granit_order.proofs.BracketsKept.{agrees_said, fresh_said, reads_said}
+use Rattle.granit_order.proofs.BracketsPassed.{SaysOf}
+use Rattle.granit_order.proofs.BracketsKept.{gap_agrees, telling}
 use Rattle.granit_answers.specs.FlowLimit.{StandsRight, AllStandRight}
 
 -- ---- columns

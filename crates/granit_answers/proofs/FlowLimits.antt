@@ -22,8 +22,9 @@ use Rattle.granit_machine.specs.LexemeSort.{Placed}
 use Rattle.granit_machine.specs.NodeLexemes.{note_items}
 use Rattle.granit_machine.specs.PossibleKeys.{top_key}
 use Rattle.granit_machine.specs.ReaderState.{ReaderState, reader_start}
-use Rattle.granit_places.proofs.Moving.{lexeme_moved}
-use Rattle.granit_places.proofs.Telling.{SaysOf, gap_agrees, telling}
+use Rattle.granit_order.proofs.BracketsKept.{lexeme_moved}
+use Rattle.granit_order.proofs.BracketsPassed.{SaysOf}
+use Rattle.granit_order.proofs.BracketsKept.{gap_agrees, telling}
 use Rattle.granit_answers.specs.FlowLimit.{brackets_behind, OpensInside, NestWithin, KeyOnLine, KeysOnLines}
 use Rattle.granit_order.specs.Order.{open_behind}
 use Rattle.granit_order.proofs.BracketsKept.{fresh_kinds, closed_same}

@@ -2,11 +2,11 @@
 use Rattle.std.proofs.Common.{◌≡◌, ℕ, Bool, true, false, List, None, Result, Ok, Err, ◌⊎◌, inl, inr, refl, sym, ap, ◌∙◌}
 use Rattle.std.proofs.Common.{subst}
 use Rattle.granit_error.specs.OptionsData.{OptionsData}
-use Rattle.granit_quiet.specs.CommentEvents.{comment_events, only_comments}
-use Rattle.granit_quiet.specs.Quiet.{but_comments}
-use Rattle.granit_quiet.proofs.CommentLaws.{run_same}
-use Rattle.granit_quiet.proofs.EndTelling.{run_told}
-use Rattle.granit_comment_room.proofs.RowsFirst.{none_given}
+use Rattle.granit_order.specs.Answers.{comment_events, only_comments}
+use Rattle.granit_order.specs.Answers.{but_comments}
+use Rattle.granit_order.proofs.BracketsKept.{run_same}
+use Rattle.granit_order.proofs.BracketsKept.{run_told}
+use Rattle.granit_comment_places.proofs.CommentsStand.{none_given}
 use Rattle.granit_language.specs.Reached.{ReadWhole}
 use Rattle.granit_language.specs.Seen.{terminals_of}
 use Rattle.granit_language.specs.Telling.{events_told}
@@ -24,7 +24,7 @@ use Rattle.granit_machine.specs.Lexing.{flagged, lex}
 use Rattle.granit_machine.specs.Machine.{feed_all, run}
 use Rattle.granit_machine.specs.Reader.{LexState}
 use Rattle.granit_machine.specs.ReaderState.{ReaderState, reader_start}
-use Rattle.granit_reading.proofs.WholeLaw.{one_whole}
+use Rattle.granit_read_answers.proofs.Misspelt.{one_whole}
 use Rattle.granit_order.specs.Answers.{AnswersReading}
 use Rattle.granit_answers.proofs.Answered.{bare_run, bare_reads, bare_answered, Shown}
 use Rattle.granit_answers.proofs.Asked.{Asked, asked_run, asked_to_end, bare_of, bare_silent, same_answer}

@@ -14,8 +14,9 @@ use Rattle.granit_machine.specs.LexemeSort.{ColonSign, AliasSign, AnchorSign, Ta
 use Rattle.granit_machine.specs.LexemeSort.{StrayMark, NoSign, LexemeSort, TextEnd, StartMark, EndMark, DirectiveSign}
 use Rattle.granit_machine.specs.LexemeSort.{Unprintable, Placed}
 use Rattle.granit_machine.specs.ReaderState.{ReaderState, reader_start}
-use Rattle.granit_places.proofs.ColumnsWhole.{latest_noted, latest_joined}
-use Rattle.granit_places.proofs.Telling.{SaysOf, telling}
+use Rattle.granit_order.proofs.BracketsKept.{latest_noted, latest_joined}
+use Rattle.granit_order.proofs.BracketsPassed.{SaysOf}
+use Rattle.granit_order.proofs.BracketsKept.{telling}
 use Rattle.granit_answers.specs.Prefix.{prefix_behind, before_document}
 
 gap_keeps : {o : OptionsData} {h : Here} {l : Laid} {c : Option CommentRead} {t : ReaderState} → GapStands o h l c t →

@@ -3,12 +3,12 @@ use Rattle.std.proofs.Common.{◌≡◌, ℕ, Bool, true, false, not, List, [], 
 use Rattle.std.proofs.Common.{◌∙◌, subst, append_assoc}
 use Rattle.std.proofs.lemmas.List.{append-nil}
 use Rattle.granit_error.specs.OptionsData.{OptionsData}
-use Rattle.granit_views.specs.Running.{FairRun}
-use Rattle.granit_views.specs.View.{item_of}
+use Rattle.granit_order.specs.Order.{FairRun}
+use Rattle.granit_order.specs.Order.{item_of}
 use Rattle.granit_agreement.proofs.Parsed.{parsed_viable, viable_parsed}
 use Rattle.granit_agreement.proofs.Waitings.{waits_awaits, awaits_waits}
-use Rattle.granit_event_machine.specs.EventMachine.{IsFresh}
-use Rattle.granit_comment_room.specs.RefusedRows.{RefusesRow, NoRow, FirstRow}
+use Rattle.granit_order.specs.Order.{IsFresh}
+use Rattle.granit_comment_places.specs.CommentPlaces.{RefusesRow, NoRow, FirstRow}
 use Rattle.granit_language.specs.CommentRows.{RowTooLong, up_to}
 use Rattle.granit_language.specs.Scope.{no_scope}
 use Rattle.granit_language.specs.Seen.{Flagged, lexemes_flagged}

@@ -1,10 +1,10 @@
 -- Where the comments of a text stand among the other events of its answer (YAML 1.2.2, 6.6).
+pub use Rattle.granit_order.specs.Answers.{comment_events, only_comments, tail_events}
 use Rattle.std.specs.Prelude.{◌≡◌, List, [], ◌∷◌, ◌++◌, map}
 use Rattle.granit_base.specs.Place.{Mark}
 use Rattle.granit_error.specs.OptionsData.{OptionsData}
-use Rattle.granit_quiet.specs.CommentEvents.{comment_events, only_comments}
 use Rattle.granit_comment_places.specs.CommentPlaces.{SequenceStarted}
-use Rattle.granit_quiet.specs.Quiet.{but_comments}
+pub use Rattle.granit_order.specs.Answers.{but_comments}
 use Rattle.granit_language.specs.Awaiting.{WaitsIn}
 use Rattle.granit_language.specs.Node.{NoProperties}
 use Rattle.granit_language.specs.OpenPlace.{Hole, OpenPlace, Want}

@@ -1,7 +1,7 @@
 //! What the machine of the whole language answers.
 ghost use Rattle.std.specs.Prelude.{◌≡◌, ℕ, false, true, ◌⊎◌, List, None, Some, Ok, Err, []};
 ghost use Rattle.granit_error.specs.OptionsData.{OptionsData};
-ghost use Rattle.granit_quiet.specs.Quiet.{but_comments};
+ghost use Rattle.granit_order.specs.Answers.{but_comments};
 ghost use Rattle.granit_language.specs.TextFault.{NoneTold, OfComments, OfLexemes, OfReading, WholeCause};
 ghost use Rattle.granit_language.specs.Telling.{events_told};
 ghost use Rattle.granit_language.specs.TreeEvents.{TreeEvent};

@@ -2,7 +2,7 @@
 ghost use Rattle.std.specs.Prelude.{◌≡◌, ◌∷◌, ◌++◌, ℕ, Bool, List, [], Ok, Some, true};
 ghost use Rattle.granit_answers.specs.CommentStands.{CommentStands};
 ghost use Rattle.granit_error.specs.OptionsData.{OptionsData};
-ghost use Rattle.granit_quiet.specs.CommentEvents.{comment_event};
+ghost use Rattle.granit_order.specs.Answers.{comment_event};
 ghost use Rattle.granit_comment_places.specs.CommentPlaces.{tail_event};
 ghost use Rattle.granit_lexemes.specs.Comment.{CommentRead};
 ghost use Rattle.granit_lexemes.specs.Here.{start_of};

@@ -15,8 +15,9 @@ use Rattle.granit_lexemes.specs.Lexeme.{Lexeme}
 use Rattle.granit_lexemes.specs.declared.layout.OpenColumn.{OpenColumn}
 use Rattle.granit_machine.specs.Columns.{chosen_columns, up_to_column, closed_at}
 use Rattle.granit_machine.specs.Laid.{Laid, is_in_flow, block_column, innermost_column, is_column}
-use Rattle.granit_places.proofs.ColumnsKept.{under, at_most_has}
-use Rattle.granit_places.proofs.ColumnsLaw.{cols}
+use Rattle.granit_places.proofs.ColumnsKept.{under}
+pub use Rattle.granit_places.proofs.ColumnsKept.{at_most_has}
+pub use Rattle.granit_places.proofs.ColumnsLaw.{cols}
 use Rattle.granit_before.specs.HeldKeys.{StandsLow}
 
 has_kept : (k c : ℕ) (cs : List OpenColumn) → Falls (cols cs) → Has c (cols (up_to_column k cs)) →

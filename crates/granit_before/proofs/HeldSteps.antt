@@ -20,7 +20,8 @@ use Rattle.granit_machine.specs.LexemeSort.{StrayMark, NoSign, LexemeSort, TextE
 use Rattle.granit_machine.specs.LexemeSort.{Unprintable, Placed}
 use Rattle.granit_machine.specs.PossibleKeys.{key_in, top_key, outer_key, keyed_brackets, is_allowed, new_key}
 use Rattle.granit_machine.specs.PossibleKeys.{key_goes_on, node_key}
-use Rattle.granit_places.proofs.ColumnsLaw.{closed_brackets, closed_key}
+use Rattle.granit_places.proofs.ColumnsLaw.{closed_brackets}
+pub use Rattle.granit_places.proofs.ColumnsLaw.{closed_key}
 use Rattle.granit_places.proofs.Moving.{left_open}
 use Rattle.granit_places.proofs.Telling.{SaysOf, Agrees}
 use Rattle.granit_before.proofs.HeldLow.{low_decided, required_decided}

@@ -21,10 +21,12 @@ use Rattle.granit_machine.specs.LexemeSort.{Unprintable, Placed}
 use Rattle.granit_machine.specs.PossibleKeys.{keyed_brackets, top_key, is_stale, fresh_key, fresh_bracket, fresh}
 use Rattle.granit_machine.specs.ReaderState.{ReaderState, reader_start}
 use Rattle.granit_places.proofs.ColumnsKept.{OpenSays}
-use Rattle.granit_places.proofs.ColumnsLaw.{closed_brackets, front_flow}
-use Rattle.granit_places.proofs.ColumnsWhole.{agrees_said, fresh_said, reads_said, latest_noted, latest_joined}
+pub use Rattle.granit_places.proofs.ColumnsLaw.{closed_brackets, front_flow}
+use Rattle.granit_places.proofs.ColumnsWhole.{reads_said, latest_noted, latest_joined}
+pub use Rattle.granit_places.proofs.ColumnsWhole.{agrees_said, fresh_said}
 use Rattle.granit_places.proofs.Moving.{closed_held, lexeme_moved}
-use Rattle.granit_places.proofs.Telling.{SaysOf, Agrees, gap_agrees, telling}
+use Rattle.granit_places.proofs.Telling.{SaysOf, gap_agrees, telling}
+pub use Rattle.granit_places.proofs.Telling.{Agrees}
 use Rattle.granit_before.proofs.HeldSteps.{outer_of, NoHeads, KeysSay, keys_as, keys_step}
 use Rattle.granit_before.proofs.Numbered.{read_bears}
 use Rattle.granit_before.specs.HeldKeys.{HeldSays, EachSays, keys_in, keys_of}

@@ -1,4 +1,6 @@
 -- Each lexeme of a text bears how many stand before it, and only a `:` names a key.
+pub use Rattle.granit_places.proofs.KeysLaw.{fresh_some, keys_fit, lines_fit}
+pub use Rattle.granit_comment_places.proofs.PlacementLaw.{one_placement, placed_is}
 use Rattle.std.proofs.Common.{◌≡◌, suc, ◌≤◌, List, [], ◌∷◌, ◌++◌, length, Option, Some, None, refl}
 use Rattle.std.proofs.Common.{sym, ap, ◌∙◌, subst, arith}
 use Rattle.granit_error.specs.OptionsData.{OptionsData}
@@ -17,9 +19,9 @@ use Rattle.granit_machine.specs.LexemeSort.{StrayMark, NoSign, LexemeSort, TextE
 use Rattle.granit_machine.specs.LexemeSort.{Unprintable, Placed}
 use Rattle.granit_machine.specs.NodeLexemes.{note_items}
 use Rattle.granit_machine.specs.ReaderState.{ReaderState, reader_start}
-use Rattle.granit_places.proofs.ColumnsWhole.{latest_noted}
-use Rattle.granit_places.proofs.Moving.{closed_held, lexeme_moved}
-use Rattle.granit_places.proofs.Telling.{SaysOf, gap_agrees, telling}
+pub use Rattle.granit_places.proofs.ColumnsWhole.{latest_noted}
+pub use Rattle.granit_places.proofs.Moving.{closed_held, lexeme_moved}
+pub use Rattle.granit_places.proofs.Telling.{SaysOf, gap_agrees, telling}
 use Rattle.granit_before.specs.HeldKeys.{EndsIn, all_of_it, behind_one}
 use Rattle.granit_before.specs.KeyBegins.{AllNumbered}
 

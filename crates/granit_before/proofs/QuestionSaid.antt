@@ -26,7 +26,8 @@ use Rattle.granit_machine.specs.LexemeSort.{Unprintable, Placed}
 use Rattle.granit_machine.specs.NodeLexemes.{adjacent_unless}
 use Rattle.granit_machine.specs.PossibleKeys.{top_key}
 use Rattle.granit_machine.specs.ReaderState.{ReaderState, reader_start, behind_tail}
-use Rattle.granit_places.proofs.ColumnsWhole.{latest_noted, latest_joined}
+use Rattle.granit_places.proofs.ColumnsWhole.{latest_noted}
+pub use Rattle.granit_places.proofs.ColumnsWhole.{latest_joined}
 use Rattle.granit_places.proofs.Telling.{SaysOf, telling}
 use Rattle.granit_before.specs.Tabs.{is_property_kind, BehindQuestionSign}
 

@@ -15,8 +15,8 @@ use Rattle.granit_machine.specs.ReaderState.{ReaderState, reader_start}
 use Rattle.granit_places.proofs.ColumnsKept.{OpenSays}
 use Rattle.granit_places.proofs.ColumnsLaw.{front_flow}
 use Rattle.granit_places.proofs.ColumnsWhole.{agrees_said, fresh_said, reads_said, latest_noted, latest_joined}
-use Rattle.granit_places.proofs.Counting.{At, start_at}
-use Rattle.granit_places.proofs.PlacesLaw.{gap_passes, given_places}
+pub use Rattle.granit_places.proofs.Counting.{At, start_at}
+pub use Rattle.granit_places.proofs.PlacesLaw.{gap_passes, given_places}
 use Rattle.granit_places.proofs.Telling.{gap_agrees, telling}
 use Rattle.granit_machine.specs.NodeLexemes.{note_items}
 use Rattle.granit_before.proofs.TabsColumns.{Widths, columns_step}

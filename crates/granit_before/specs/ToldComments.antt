@@ -1,9 +1,10 @@
 -- The events of the comments of items, each placed as the items behind it say (YAML 1.2.2, 6.6).
+pub use Rattle.granit_comment_places.specs.CommentPlaces.{tail_event}
 use Rattle.std.specs.Prelude.{◌≡◌, List, [], ◌∷◌, Option, Some, None}
 use Rattle.granit_base.specs.declared.style.Placement.{Placement}
 use Rattle.granit_base.specs.declared.style.Placement.TheVariants.{Right}
-use Rattle.granit_quiet.specs.CommentEvents.{comment_event}
-use Rattle.granit_comment_places.specs.Placements.{PlacedAs}
+use Rattle.granit_comment_places.specs.CommentPlaces.{comment_event}
+pub use Rattle.granit_comment_places.specs.Placements.{PlacedAs}
 use Rattle.granit_lexemes.specs.Comment.{CommentRead}
 use Rattle.granit_lexemes.specs.Lexeme.{LexemeKind, Dash, Item, OfLexeme, OfComment}
 use Rattle.granit_lexemes.specs.PlainEvent.{PlainEvent}

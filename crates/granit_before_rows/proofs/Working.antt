@@ -31,7 +31,8 @@ use Rattle.granit_declared.proofs.StillSaid.{still_said}
 use Rattle.granit_layouts.proofs.TabRows.{block_row, key_row}
 use Rattle.granit_before.specs.KeyBegins.{items_of, FlagSays, FlagsSay}
 use Rattle.granit_before_rows.specs.Worked.{BehindRead, further, worked_behind, reads_from, first_reads, first_lexemes}
-use Rattle.granit_before_rows.specs.Worked.{Indents, BeforeKey, item_begins, BeginsIn, items_in, flagged_of, KeyAt, StillKey}
+use Rattle.granit_before_rows.specs.Worked.{Indents, BeforeKey, item_begins, BeginsIn, items_in, flagged_of, KeyAt}
+use Rattle.granit_before_rows.specs.Worked.{StillKey}
 use Rattle.granit_before_rows.specs.Worked.{CutAt}
 
 -- ---- so many reads reach a place

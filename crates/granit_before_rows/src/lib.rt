@@ -3,4 +3,7 @@
 
 mod examples;
 
-pub use examples::{cuts_of_the_examples, keys_of_the_examples, keys_that_may_still_begin_of_the_examples, tabs_before_keys_of_the_examples, tabs_of_the_examples};
+pub use examples::{
+    cuts_of_the_examples, keys_of_the_examples, keys_that_may_still_begin_of_the_examples,
+    tabs_before_keys_of_the_examples, tabs_of_the_examples,
+};

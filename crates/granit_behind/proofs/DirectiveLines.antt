@@ -32,7 +32,7 @@ use Rattle.granit_machine.specs.StreamLexemes.{directive_given}
 use Rattle.granit_handles.proofs.HandleLaw.{blank_part, each_as, is_uri_or_blank, uri_part}
 use Rattle.granit_handles.proofs.HandleOnce.{ends_no_uri, handle_each}
 use Rattle.granit_names.proofs.Kept.{each-append}
-use Rattle.granit_directive_laws.proofs.LineLaw.{whole_is}
+use Rattle.granit_reading.proofs.ReadAnswers.{whole_is}
 use Rattle.granit_names.proofs.Spelling.{spelled_each, uri_class}
 use Rattle.granit_reading.proofs.SortAnswers.{sort_answers}
 use Rattle.granit_behind.proofs.AloneStates.{seen_first, sum_none}

@@ -19,8 +19,8 @@ use Rattle.granit_restart.specs.Restart.{is_boundary, lexeme_or, read_boundary, 
 use Rattle.granit_steps.specs.Steps.{StepState, Turn, step_turn}
 use Rattle.granit_machine.specs.Reader.{is_end_kind}
 use Rattle.granit_steps.proofs.Futures.{Ready}
-use Rattle.granit_streams.proofs.StreamLaws.{has_end}
-use Rattle.granit_streams.proofs.StreamNesting.{is_end_item}
+use Rattle.granit_led.proofs.EndWaits.{has_end}
+use Rattle.granit_led.proofs.EndWaits.{is_end_item}
 use Rattle.granit_led.proofs.EndWaits.{EndLast, TurnEnds, not_ended, turn_ends}
 use Rattle.granit_behind.proofs.StartReads.{parted}
 use Rattle.granit_led.proofs.FoundMarks.{cursor_there, cursor_waiting}

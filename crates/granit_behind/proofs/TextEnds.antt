@@ -1,4 +1,6 @@
 -- Where nothing is left the end of the stream is told.
+pub use Rattle.granit_reading.proofs.ReadingLaw.{ReadsBy, read-is}
+pub use Rattle.granit_reading.proofs.Answering.{Answers}
 use Rattle.std.proofs.Common.{◌≡◌, ℕ, Bool, true, false, List, [], ◌∷◌, Option, Some, None, Result, Ok, refl, sym, ap}
 use Rattle.std.proofs.Common.{◌∙◌, subst}
 use Rattle.granit_base.specs.Classes.{is_blank, is_break, is_breakz, is_gap, is_bom, is_z}

@@ -30,7 +30,7 @@ use Rattle.granit_machine.specs.Columns.{up_to_column}
 use Rattle.granit_machine.specs.Laid.{is_adjacent, is_in_flow, is_nonempty}
 use Rattle.granit_machine.specs.LexemeSort.{CloseSign, OpenSign, Placed}
 use Rattle.granit_machine.specs.ReaderState.{ReaderState, lexeme_to, with_tail}
-use Rattle.granit_places.proofs.ColumnsLaw.{cols}
+use Rattle.granit_block_lines.proofs.Keyed.{cols}
 
 opener_flat : (b : Bracket) → is_flat (opener_char b) ≡ true
 unfolding is_break

@@ -5,7 +5,8 @@ use Rattle.std.specs.Str.{encode_utf8_all}
 use Rattle.granit_block_lines.proofs.Lines.{indent_front}
 use Rattle.granit_block_lines.proofs.Ready.{Behind, fed_to, spaced}
 use Rattle.granit_canonical_steps.proofs.Names.{tag_source}
-use Rattle.granit_canonical_steps.proofs.Nodes.{anchor_starts, anchor_text_is, dash_starts, opener_starts, properties_start}
+use Rattle.granit_canonical_steps.proofs.Nodes.{anchor_starts, anchor_text_is, dash_starts, opener_starts}
+use Rattle.granit_canonical_steps.proofs.Nodes.{properties_start}
 use Rattle.granit_canonical_steps.proofs.Nodes.{question_starts, quote_starts, star_starts, tag_is, tag_starts}
 use Rattle.granit_canonical_steps.proofs.Places.{Starts}
 use Rattle.granit_generator.specs.BlockText.{block_entries, block_node, block_pairs, indent, spaced_anchor}

@@ -4,9 +4,11 @@ use Rattle.std.specs.Prelude.{None, Some, if◌then◌else◌}
 use Rattle.granit_base.specs.declared.style.ScalarStyle.TheVariants.{DoubleQuoted}
 use Rattle.granit_base.specs.declared.style.StructureStyle.TheVariants.{Flow}
 use Rattle.granit_block_layout.specs.Alike.{kinds_of, unstyled}
-use Rattle.granit_canonical_steps.specs.Canonical.{Anchors, anchor_before, between_quotes, documents_before, entries_before}
+use Rattle.granit_canonical_steps.specs.Canonical.{Anchors, anchor_before, between_quotes, documents_before}
+use Rattle.granit_canonical_steps.specs.Canonical.{entries_before}
 use Rattle.granit_canonical_steps.specs.Canonical.{lent_name, node_before, pairs_before, past_anchor, past_documents}
-use Rattle.granit_canonical_steps.specs.Canonical.{past_pairs, past_tree, past_trees, renewed, spot, stretch, tag_before}
+use Rattle.granit_canonical_steps.specs.Canonical.{past_pairs, past_tree, past_trees, renewed, spot, stretch}
+use Rattle.granit_canonical_steps.specs.Canonical.{tag_before}
 use Rattle.granit_canonical_steps.specs.Canonical.{tree_before}
 use Rattle.granit_error.specs.OptionsData.{OptionsData}
 use Rattle.granit_language.specs.Node.{TreeProperties}

@@ -8,7 +8,7 @@ use Rattle.granit_lexemes.specs.declared.layout.OpenBracket.{OpenBracket}
 use Rattle.granit_lexemes.specs.declared.layout.OpenColumn.{OpenColumn}
 use Rattle.granit_machine.specs.Columns.{chosen_columns, entered_columns, up_to_column, widened}
 use Rattle.granit_machine.specs.Laid.{is_nonempty}
-use Rattle.granit_places.proofs.ColumnsLaw.{cols}
+use Rattle.granit_canonical_steps.proofs.Places.{cols}
 
 up_if : (v : Bool) (c : OpenColumn) (xs cs : List OpenColumn) (ns : List ℕ) → cols xs ≡ ns
     → cols (chosen_columns v xs (c ∷ cs)) ≡ (if v then ns else c.column ∷ cols cs)

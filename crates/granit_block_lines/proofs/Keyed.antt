@@ -16,7 +16,7 @@ use Rattle.granit_machine.specs.Columns.{closed_at}
 use Rattle.granit_machine.specs.Laid.{Laid, block_column, innermost_column, is_column, is_in_flow}
 use Rattle.granit_machine.specs.PossibleKeys.{is_allowed, key_goes_on, new_key, node_key, top_key}
 use Rattle.granit_machine.specs.Reader.{noded}
-use Rattle.granit_places.proofs.ColumnsLaw.{cols}
+pub use Rattle.granit_canonical_steps.proofs.Places.{cols}
 
 no_column : (columns : List OpenColumn) (n : ℕ) → bound (cols columns) ≤ n
     → is_column (innermost_column columns) n ≡ false

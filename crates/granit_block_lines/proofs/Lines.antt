@@ -9,7 +9,7 @@ use Rattle.granit_lexemes.proofs.HereLemmas.{no_line_end, not_empty, stepped_tex
 use Rattle.granit_lexemes.specs.Gap.{Each, IsGap}
 use Rattle.granit_lexemes.specs.Here.{Here, begins_behind, first_tab, is_quiet, mark_of, next_char, step, tab_behind}
 use Rattle.granit_lexemes.specs.PlainExtent.{over}
-use Rattle.granit_places.proofs.Counting.{place_by}
+use Rattle.granit_canonical_steps.proofs.Places.{place_by}
 
 -- a character that stands on its line, and is no tab
 abbrev pub is_flat : ℕ → Bool

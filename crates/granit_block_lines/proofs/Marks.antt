@@ -28,7 +28,7 @@ use Rattle.granit_machine.specs.Columns.{closed_all}
 use Rattle.granit_machine.specs.Laid.{Laid, is_nonempty}
 use Rattle.granit_machine.specs.LexemeSort.{StartMark, TextEnd}
 use Rattle.granit_machine.specs.ReaderState.{ReaderState, lexeme_to}
-use Rattle.granit_places.proofs.ColumnsLaw.{cols}
+use Rattle.granit_canonical_steps.proofs.Places.{cols}
 
 dashes_flat : Each is_flat (0x2D ∷ 0x2D ∷ 0x2D ∷ [])
 unfolding is_break

@@ -23,8 +23,8 @@ use Rattle.granit_lexemes.specs.declared.layout.PossibleKey.{PossibleKey}
 use Rattle.granit_machine.specs.Laid.{is_nonempty}
 use Rattle.granit_machine.specs.PossibleKeys.{fresh_bracket, fresh_key, is_stale}
 use Rattle.granit_machine.specs.ReaderState.{ReaderState}
-use Rattle.granit_places.proofs.ColumnsLaw.{cols}
-use Rattle.granit_places.proofs.KeysLaw.{fresh_some}
+use Rattle.granit_canonical_steps.proofs.Places.{cols}
+use Rattle.granit_canonical_steps.proofs.Places.{fresh_some}
 
 -- ---- keys
 

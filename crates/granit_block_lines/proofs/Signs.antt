@@ -39,7 +39,7 @@ use Rattle.granit_machine.specs.Laid.{Laid, behind_lexeme, is_adjacent, is_in_fl
 use Rattle.granit_machine.specs.LexemeSort.{ColonSign, DashSign, Placed, QuestionSign}
 use Rattle.granit_machine.specs.PossibleKeys.{key_in, keyed_brackets, outer_key, top_key}
 use Rattle.granit_machine.specs.ReaderState.{ReaderState, sign_lexeme, with_tail}
-use Rattle.granit_places.proofs.ColumnsLaw.{cols}
+use Rattle.granit_canonical_steps.proofs.Places.{cols}
 
 -- ---- outside brackets
 

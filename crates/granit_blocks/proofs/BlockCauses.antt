@@ -17,9 +17,10 @@ use Rattle.granit_lexemes.specs.PlainExtent.{over}
 use Rattle.granit_lexemes.specs.Basics.{unprintable, count_up_to, text_up_to}
 use Rattle.granit_lexemes.proofs.PieceLemmas.{pieces_done, pieces_more, pieces_fails}
 use Rattle.granit_lexemes.specs.QuotedExtent.{BlanksBehind}
-use Rattle.granit_scalars.proofs.CommentCauses.{comment_wrong}
-use Rattle.granit_scalars.proofs.Comments.{comment_reads, with_note}
-use Rattle.granit_scalars.proofs.QuotedEscapes.{over_text}
+use Rattle.granit_quoted_laws.proofs.QuotedLaw.{comment_wrong}
+use Rattle.granit_quoted_laws.proofs.QuotedTail.{comment_reads}
+use Rattle.granit_quoted_laws.proofs.QuotedLaw.{with_note}
+use Rattle.granit_quoted_laws.proofs.QuotedOnce.{over_text}
 use Rattle.granit_lexemes.specs.BlockHeader.{Chomping, Strip, Clip, Keep, BlockHeader, chomping_of, header_sign}
 use Rattle.granit_lexemes.specs.BlockHeader.{block_header}
 use Rattle.granit_lexemes.specs.BlockScalar.{BlockState, is_between, block_turn, block_len, line_up_to}

@@ -1,4 +1,5 @@
 -- The header of a block scalar and what stands behind it on its line, as the plain function reads them.
+pub use Rattle.granit_quoted_laws.proofs.QuotedCauses.{quoted_cause_refused}
 use Rattle.std.proofs.Common.{◌≡◌, ℕ, ◌-◌, ◌==◌, Bool, true, false, ◌&&◌, ◌||◌, not, List, [], ◌∷◌, ◌++◌, length}
 use Rattle.std.proofs.Common.{Option, Some, None, Result, Ok, Err, refl, sym, ap, ap₂, ◌∙◌, subst, arith}
 use Rattle.std.specs.Prelude.{if◌then◌else◌, is_none}
@@ -16,9 +17,10 @@ use Rattle.granit_lexemes.specs.Outcome.{Fault, fault_at, ◌>>=◌}
 use Rattle.granit_lexemes.specs.PlainExtent.{over, starts_comment}
 use Rattle.granit_lexemes.specs.Basics.{fails_at, count_up_to}
 use Rattle.granit_lexemes.specs.QuotedExtent.{BlanksBehind}
-use Rattle.granit_scalars.proofs.Comments.{comment_reads, comment_answered, with_note}
-use Rattle.granit_scalars.proofs.Nameless.{comment_none}
-use Rattle.granit_scalars.proofs.QuotedEscapes.{over_text}
+use Rattle.granit_quoted_laws.proofs.QuotedLaw.{with_note}
+pub use Rattle.granit_quoted_laws.proofs.QuotedTail.{comment_answered, comment_reads}
+use Rattle.granit_quoted_laws.proofs.QuotedCauses.{comment_none}
+use Rattle.granit_quoted_laws.proofs.QuotedOnce.{over_text}
 use Rattle.granit_lexemes.specs.BlockHeader.{Chomping, Strip, Keep, BlockHeader, header_sign, block_header}
 use Rattle.granit_lexemes.specs.BlockMoves.{Crosses}
 use Rattle.granit_lexemes.specs.HeaderExtent.{plus, minus, no_indicators, Indicator, takes_sign, takes_digit}

@@ -8,7 +8,7 @@ use Rattle.granit_lexemes.specs.Here.{Here, text_len, next_char, mark_of, mid_li
 use Rattle.granit_lexemes.specs.Outcome.{Fault, fault_at}
 use Rattle.granit_lexemes.specs.Pieces.{with_front, pieces}
 use Rattle.granit_lexemes.proofs.PieceLemmas.{pieces_done, pieces_more}
-use Rattle.granit_scalars.proofs.Turning.{Carries, pieces_hold}
+use Rattle.granit_quoted_laws.proofs.QuotedReads.{Carries, pieces_hold}
 use Rattle.granit_lexemes.specs.BlockHeader.{Chomping, Strip, Clip, Keep, is_strip}
 use Rattle.granit_lexemes.specs.BlockScalar.{BlockState, between_lines, block_turn, block_len, last_break, kept}
 use Rattle.granit_lexemes.specs.BlockValue.{line_feeds, line_gap, begins_blank, content_text, ending, kept_lines}

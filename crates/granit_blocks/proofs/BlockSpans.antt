@@ -1,4 +1,5 @@
 -- Where a block scalar stands, characters of the text stand from its indicator up to its end.
+pub use Rattle.granit_quoted_laws.proofs.QuotedLaw.{is_answered, is_refused, is_standing}
 use Rattle.std.proofs.Common.{◌≡◌, ℕ, ◌==◌, Bool, true, false, List, [], ◌∷◌, ◌++◌, length, Option, refl, sym, ap, ◌∙◌}
 use Rattle.std.proofs.Common.{subst, append_assoc}
 use Rattle.granit_base.specs.Place.{Mark}
@@ -7,8 +8,8 @@ use Rattle.granit_lexemes.specs.Comment.{CommentRead, StandsComment}
 use Rattle.granit_lexemes.specs.Here.{Here, mid_line, step}
 use Rattle.granit_lexemes.specs.Moves.{steps}
 use Rattle.granit_lexemes.specs.PlainExtent.{over}
-use Rattle.granit_scalars.proofs.QuotedEscapes.{over_text}
-use Rattle.granit_scalars.proofs.Stepping.{over-append}
+use Rattle.granit_quoted_laws.proofs.QuotedOnce.{over_text}
+use Rattle.granit_quoted_laws.proofs.QuotedOnce.{over-append}
 use Rattle.granit_lexemes.specs.BlockHeader.{Chomping, BlockHeader}
 use Rattle.granit_lexemes.specs.BlockScalar.{BlockRead, BlockGiven}
 use Rattle.granit_lexemes.specs.BlockExtent.{BlockFront, BlockBody, without_content, with_content, AnswersBlock}

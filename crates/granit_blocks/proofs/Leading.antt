@@ -8,7 +8,7 @@ use Rattle.granit_lexemes.specs.Outcome.{Fault, ◌>>=◌}
 use Rattle.granit_lexemes.specs.Pieces.{with_front, pieces, Shortens}
 use Rattle.granit_lexemes.specs.Basics.{past_break}
 use Rattle.granit_lexemes.proofs.PieceLemmas.{pieces_done, pieces_more}
-use Rattle.granit_scalars.proofs.Turning.{Carries, pieces_hold}
+pub use Rattle.granit_quoted_laws.proofs.QuotedReads.{Carries, pieces_hold}
 use Rattle.granit_lexemes.specs.BlockHeader.{is_space, leading_turn, greatest, margin_of, content_column}
 use Rattle.granit_lexemes.specs.BlockScalar.{indented, empty_turn, empty_lines}
 use Rattle.granit_lexemes.specs.BlockMoves.{Breaks, AllSpaces, Spaces}

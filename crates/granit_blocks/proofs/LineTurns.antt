@@ -14,7 +14,8 @@ use Rattle.granit_lexemes.specs.Outcome.{Fault, fault_at, ◌>>=◌}
 use Rattle.granit_lexemes.specs.Pieces.{Shortens}
 use Rattle.granit_lexemes.specs.Basics.{fails_at, past_break, is_document_mark, text_up_to}
 use Rattle.granit_lexemes.proofs.HereLemmas.{not_empty}
-use Rattle.granit_scalars.proofs.Stepping.{seen, is_break_nul}
+use Rattle.granit_quoted_laws.proofs.QuotedLaw.{seen}
+use Rattle.granit_quoted_laws.proofs.QuotedKept.{is_break_nul}
 use Rattle.granit_lexemes.specs.BlockScalar.{BlockState, between_lines, empty_lines, line_up_to}
 use Rattle.granit_lexemes.specs.BlockScalar.{block_turn, block_len}
 use Rattle.granit_lexemes.specs.BlockMoves.{Crosses, Breaks}

@@ -1,4 +1,6 @@
 -- How places move over characters, breaks and spaces.
+pub use Rattle.granit_quoted_laws.proofs.QuotedLaw.{quoted_refused, quoted_standing}
+pub use Rattle.granit_quoted_laws.proofs.QuotedOnce.{quoted_is_answered}
 use Rattle.std.proofs.Common.{◌≡◌, ℕ, zero, suc, ◌+◌, ◌-◌, ◌<◌, ◌≤◌, Bool, true, false, List, [], ◌∷◌, ◌++◌, length}
 use Rattle.std.proofs.Common.{take, refl, sym, ap, ◌∙◌, subst, arith}
 use Rattle.std.specs.Prelude.{if◌then◌else◌}
@@ -17,7 +19,8 @@ use Rattle.granit_lexemes.specs.BlockMoves.{Crosses, Breaks, AllSpaces, no_space
 use Rattle.granit_lexemes.specs.BlockMoves.{no_space_left, space_left}
 use Rattle.granit_lexemes.proofs.HereLemmas.{past_goes, past_stops, step_len, stepped_text}
 use Rattle.granit_quoted_laws.proofs.QuotedKept.{one_broken}
-use Rattle.granit_scalars.proofs.Stepping.{seen, column_on, broken}
+use Rattle.granit_quoted_laws.proofs.QuotedLaw.{seen}
+use Rattle.granit_quoted_laws.proofs.QuotedGaps.{column_on, broken}
 use Rattle.granit_quoted_laws.proofs.QuotedGaps.{break_first, past_one}
 
 -- ---- over the characters that pass a test

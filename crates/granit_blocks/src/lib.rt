@@ -3,4 +3,7 @@
 
 mod laws;
 
-pub use laws::{every_block_answer_stands, every_block_cause_is_refused, every_block_refusal_has_its_cause, every_block_scalar_is_answered, every_block_scalar_spans_its_source, one_block_scalar};
+pub use laws::{
+    every_block_answer_stands, every_block_cause_is_refused, every_block_refusal_has_its_cause,
+    every_block_scalar_is_answered, every_block_scalar_spans_its_source, one_block_scalar,
+};

@@ -1,11 +1,12 @@
 -- Where recovery asks whether another document is there, a look ahead tells it: the end waits, no node is open, or the
 -- next turn fails.
+pub use Rattle.granit_looking.proofs.EndLaws.{look_none, next_none}
 use Rattle.std.proofs.Common.{◌≡◌, ℕ, suc, Bool, true, false, List, [], ◌∷◌}
 use Rattle.std.proofs.Common.{Option, Some}
 use Rattle.std.proofs.Common.{None, Result, Ok, Err, refl, sym, ap, subst, ◌∙◌, arith}
 use Rattle.std.specs.Prelude.{if◌then◌else◌}
 use Rattle.granit_error.specs.OptionsData.{OptionsData}
-use Rattle.granit_feeding.proofs.RoomSteps.{Calm, CalmBy}
+use Rattle.granit_recovery.proofs.SeatSteps.{Calm, CalmBy}
 use Rattle.granit_lexemes.specs.Outcome.{Fault}
 use Rattle.granit_lexemes.specs.PlainEvent.{PlainEvent, PlainVersion, EventKind, Comment}
 use Rattle.granit_machine.specs.Frames.{DocumentStage, Frame, Root, WithProperties, BlockSequence, BlockMapping}
@@ -38,7 +39,9 @@ use Rattle.granit_restart.specs.Skipping.{ends_before}
 use Rattle.granit_restart.specs.Skipping.{Stops, with_pending}
 use Rattle.granit_restart.specs.Turned.{Turned}
 use Rattle.granit_steps.proofs.Futures.{Ready}
-use Rattle.granit_streams.proofs.Nesting.{Clean, Fine, levels_of}
+use Rattle.granit_recovery.proofs.SeatLaws.{Clean}
+use Rattle.granit_recovery.proofs.SeatSteps.{Fine}
+use Rattle.granit_recovery.proofs.RestLaws.{levels_of}
 use Rattle.granit_steps.specs.Levels.{and_then, behind_event, behind_events, InStream, Level}
 use Rattle.granit_steps.specs.Steps.{StepState, step_size, step_turn}
 use Rattle.granit_recovery.proofs.TurnedLaws.{call_turned, looked_turned, reached_turned, skipped_by_turned}

@@ -4,19 +4,19 @@ use Rattle.std.proofs.Common.{Some, None, Result, Ok, Err, refl, sym, ap, subst,
 use Rattle.std.specs.Prelude.{if◌then◌else◌}
 use Rattle.granit_base.specs.Place.{Mark}
 use Rattle.granit_error.specs.OptionsData.{OptionsData}
-use Rattle.granit_language.specs.Reached.{Reads, ReadRefused}
+use Rattle.granit_quiet.specs.Quiet.{Reads, ReadRefused}
 use Rattle.granit_lexemes.specs.Comment.{CommentRead}
 use Rattle.granit_lexemes.specs.Here.{text_len}
 use Rattle.granit_lexemes.specs.Lexeme as lexemes
 use Rattle.granit_lexemes.specs.Lexeme.{LexemeKind, Item, OfLexeme, OfComment}
 use Rattle.granit_lexemes.specs.Outcome.{Fault}
 use Rattle.granit_lexemes.specs.PlainEvent.{PlainEvent, EventKind, StreamEnd, Comment}
-use Rattle.granit_termination.proofs.LexLengths.{lex_turn-Shortens}
+use Rattle.granit_steps.proofs.Futures.{lex_turn-Shortens}
 use Rattle.granit_machine.specs.Reader.{LexState, behind_read, is_end, is_end_kind, lex_turn, lex_len, read}
 use Rattle.granit_machine.specs.ReaderState.{ReaderState, Read}
-use Rattle.granit_reading.proofs.Answering.{Answers}
-use Rattle.granit_reading.proofs.ReadAnswers.{read_answers}
-use Rattle.granit_reading.proofs.ReadingLaw.{ReadsBy, read-is}
+use Rattle.granit_places.proofs.Telling.{Answers}
+use Rattle.granit_places.proofs.Counting.{read_answers}
+use Rattle.granit_places.proofs.Telling.{ReadsBy, read-is}
 use Rattle.granit_restart.specs.Calls.{Calls, next_call}
 use Rattle.granit_calls.specs.Ending.{first_by, first_event, lexeme_or_later, first_lexeme, OnlyGap, ends_here}
 use Rattle.granit_calls.specs.Ending.{ends_later, FirstEventEnds, FirstLexemeEnds, EndsReading, NoneFollows}

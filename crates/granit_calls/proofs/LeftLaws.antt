@@ -33,9 +33,9 @@ use Rattle.granit_restart.specs.Restart.{cursor_at, read_boundary}
 use Rattle.granit_restart.specs.Skipping.{Ahead, ahead, AtStreamEnd, BehindDocument, Ended, ends_before, Failed, NoEnd}
 use Rattle.granit_restart.specs.Skipping.{ahead_by, restarted, skip_by_turns, skip_ahead, SkipEnd, skip_in}
 use Rattle.granit_restart.specs.Skipping.{skipped_fault, skipped_to, skip_turn, Stops, with_pending}
-use Rattle.granit_streams.proofs.Nesting.{levels_of}
+use Rattle.granit_recovery.proofs.RestLaws.{levels_of}
 use Rattle.granit_steps.proofs.StepLaws.{step_turn-Shortens}
-use Rattle.granit_streams.proofs.StreamLaws.{has_end}
+use Rattle.granit_recovery.proofs.TurnLaws.{has_end}
 use Rattle.granit_steps.specs.Levels.{InStream, Level}
 use Rattle.granit_steps.specs.Steps.{next_event}
 use Rattle.granit_steps.specs.Steps.{StepState, step_size, step_turn, Turn}

@@ -28,10 +28,13 @@ use Rattle.granit_restart.proofs.AheadLaws.{one, waits_next}
 use Rattle.granit_restart.proofs.MarkLaws.{items, pushed_items}
 use Rattle.granit_restart.specs.Calls.{failing, failing_by, failing_in}
 use Rattle.granit_restart.specs.Skipping.{with_pending}
-use Rattle.granit_streams.proofs.Nesting.{levels_of}
+use Rattle.granit_recovery.proofs.RestLaws.{levels_of}
 use Rattle.granit_steps.proofs.StepLaws.{step_turn-Shortens}
-use Rattle.granit_streams.proofs.StreamLaws.{OnlyComments, has_end, end_behind}
-use Rattle.granit_streams.proofs.StreamNesting.{Fed, feed_fed, is_end_item}
+use Rattle.granit_recovery.proofs.RestLaws.{OnlyComments}
+use Rattle.granit_recovery.proofs.TurnLaws.{has_end}
+use Rattle.granit_recovery.proofs.LevelLaws.{end_behind}
+use Rattle.granit_recovery.proofs.TurnLaws.{Fed, feed_fed}
+use Rattle.granit_recovery.proofs.SeatSteps.{is_end_item}
 use Rattle.granit_steps.specs.Levels.{behind_event, behind_events, document_begins, InStream, Level, node_begun}
 use Rattle.granit_steps.specs.Levels.{BeforeNode, BehindNode, InMapping, InSequence, mapping_ends, node_done}
 use Rattle.granit_steps.specs.Levels.{sequence_ends}

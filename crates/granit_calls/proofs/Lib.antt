@@ -1,4 +1,4 @@
-mod AskLaws
+pub mod AskLaws
 mod DropLaws
 mod FaultLaws
 mod FollowLaws

@@ -1,6 +1,6 @@
 -- Where a boundary stands in a text: at a counted place.
 use Rattle.std.specs.Prelude.{ℕ, List}
-use Rattle.granit_language.specs.Counting.{CountedHere}
+use Rattle.granit_quiet.specs.Quiet.{CountedHere}
 use Rattle.granit_lexemes.specs.Here.{Here}
 use Rattle.granit_restart.specs.Boundary.{Boundary, AtStart, PastEnd, AtTextEnd}
 

@@ -1,15 +1,17 @@
 -- What the machine answers for canonical text.
+pub use Rattle.granit_answers.proofs.OneCause.{answer_reads, cause_answered, reading_answered, unasked_silent}
+pub use Rattle.granit_answers.proofs.CommentsCaused.{any_fault_caused}
+pub use Rattle.granit_answers.proofs.Answered.{one_answer}
 use Rattle.std.proofs.Common.{Bool, Err, List, Ok, Option, Result, [], ap, ap₂, cond, false, not, refl, subst, sym}
 use Rattle.std.proofs.Common.{true, ℕ, ◌++◌, ◌∙◌, ◌∷◌, ◌≡◌, ◌≤◌}
 use Rattle.std.proofs.lemmas.List.{append-nil}
 use Rattle.std.specs.Prelude.{None}
 use Rattle.granit_lexemes.proofs.PieceLemmas.{fault_none}
-use Rattle.granit_answers.proofs.OneCause.{answer_reads, reading_answered, unasked_silent}
 use Rattle.granit_canonical.proofs.Whole.{AreBare, BareRead, flagged_bare, items_of, text_read, unflagged}
 use Rattle.granit_canonical_steps.specs.Canonical.{canonical_events}
 use Rattle.granit_error.specs.OptionsData.{OptionsData}
-use Rattle.granit_quiet.specs.CommentEvents.{comment_events, only_comments, tail_events}
-use Rattle.granit_quiet.specs.Quiet.{but_comments}
+use Rattle.granit_answers.specs.CommentStands.{comment_events, only_comments, tail_events}
+use Rattle.granit_answers.specs.CommentStands.{but_comments}
 use Rattle.granit_language.specs.CommentRows.{AreComments, RowTooLong, tail_comments}
 use Rattle.granit_language.specs.Telling.{events_told}
 use Rattle.granit_language.specs.TextFault.{NoneTold}
@@ -27,7 +29,7 @@ use Rattle.granit_machine.specs.Reader.{LexState}
 use Rattle.granit_model.specs.Characters.{HasCharacters}
 use Rattle.granit_model.specs.FlowText.{flow_characters}
 use Rattle.granit_model.specs.Tree.{DocumentsFit, PlainTrees, trees_depth}
-use Rattle.granit_reading.proofs.WholeLaw.{all_read_whole}
+use Rattle.granit_answers.proofs.CommentsCaused.{all_read_whole}
 
 -- ---- no comment is one too many, since there is none
 

@@ -11,14 +11,17 @@ use Rattle.granit_canonical_steps.proofs.Flows.{flow_read, no_contents}
 use Rattle.granit_canonical_steps.proofs.Known.{Knows, knows_anchor, knows_pairs, knows_tree, knows_trees}
 use Rattle.granit_canonical_steps.proofs.Names.{EndsName, ends_closer, ends_comma, ends_spaced}
 use Rattle.granit_canonical_steps.proofs.Nodes.{NodeRead, alias_read, closer_starts, colon_starts, comma_starts}
-use Rattle.granit_canonical_steps.proofs.Nodes.{opener_starts, properties_start, question_starts, quote_starts, scalar_read}
+use Rattle.granit_canonical_steps.proofs.Nodes.{opener_starts, properties_start, question_starts, quote_starts}
+use Rattle.granit_canonical_steps.proofs.Nodes.{scalar_read}
 use Rattle.granit_canonical_steps.proofs.Nodes.{star_starts}
-use Rattle.granit_canonical_steps.proofs.Passing.{Passage, passage_one, passage_then, place_in, plain_inside, plain_item}
+use Rattle.granit_canonical_steps.proofs.Passing.{Passage, passage_one, passage_then, place_in, plain_inside}
+use Rattle.granit_canonical_steps.proofs.Passing.{plain_item}
 use Rattle.granit_canonical_steps.proofs.Places.{Before, Starts, spaced, touching}
 use Rattle.granit_canonical_steps.proofs.Signs.{takes_colon, takes_comma, takes_question}
 use Rattle.granit_canonical_steps.proofs.Spelling.{CanSpell, CanSpellPairs, CanSpellTrees}
 use Rattle.granit_canonical_steps.proofs.Taking.{Follows, follows_parts, follows_starts, in_brackets, reads_one}
-use Rattle.granit_canonical_steps.specs.Canonical.{Anchors, entries_before, pairs_before, past_anchor, past_pairs, past_tree}
+use Rattle.granit_canonical_steps.specs.Canonical.{Anchors, entries_before, pairs_before, past_anchor, past_pairs}
+use Rattle.granit_canonical_steps.specs.Canonical.{past_tree}
 use Rattle.granit_canonical_steps.specs.Canonical.{past_trees, tree_before}
 use Rattle.granit_error.specs.OptionsData.{OptionsData}
 use Rattle.granit_language.specs.Node.{AfterItem, Asked, FlowLead, Just, LastItem, NoItem, Node, Pair, Paired, Single}

@@ -19,7 +19,8 @@ use Rattle.granit_canonical_steps.proofs.Places.{Before, Held, Starts, directly,
 use Rattle.granit_canonical_steps.proofs.Spelling.{CanSpell, CanSpellTrees, documents_spell}
 use Rattle.granit_canonical_steps.proofs.Taking.{Taken, at_line, reads_one}
 use Rattle.granit_canonical.proofs.Trees.{tree_read}
-use Rattle.granit_canonical_steps.specs.Canonical.{Anchors, canonical_events, documents_before, past_documents, past_tree}
+use Rattle.granit_canonical_steps.specs.Canonical.{Anchors, canonical_events, documents_before, past_documents}
+use Rattle.granit_canonical_steps.specs.Canonical.{past_tree}
 use Rattle.granit_canonical_steps.specs.Canonical.{renewed, stretch, tree_before}
 use Rattle.granit_error.specs.OptionsData.{OptionsData}
 use Rattle.granit_language.proofs.Scopes.{scoped_append}
@@ -52,7 +53,7 @@ use Rattle.granit_model.specs.Characters.{HasCharacters}
 use Rattle.granit_model.specs.FlowText.{documents_text, flow_characters, tree_text}
 use Rattle.granit_model.specs.Tree.{AfterTrees, DocumentsFit, NoTrees, PlainTree, PlainTrees, TreeFits, tree_depth}
 use Rattle.granit_model.specs.Tree.{trees_depth}
-use Rattle.granit_places.proofs.Counting.{column_behind}
+use Rattle.granit_canonical_steps.proofs.Places.{column_behind}
 use Rattle.granit_canonical_steps.proofs.Passing.{flag_bare}
 
 -- ---- documents

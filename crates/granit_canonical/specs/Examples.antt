@@ -1,7 +1,7 @@
 -- What the worked examples print.
 use Rattle.std.specs.Prelude.{ℕ, List}
 use Rattle.granit_error.specs.OptionsData.{OptionsData}
-use Rattle.granit_canonical_steps.specs.Canonical.{canonical_events}
+pub use Rattle.granit_canonical_steps.specs.Canonical.{canonical_events}
 use Rattle.granit_lexemes.specs.Line.{event_lines}
 use Rattle.granit_model.specs.Tree.{PlainTrees}
 

@@ -9,7 +9,8 @@ use Rattle.granit_base.specs.Place.{Mark}
 use Rattle.granit_base.specs.declared.style.StructureStyle.TheVariants.{Flow}
 use Rattle.granit_canonical_steps.proofs.Calm.{Calm, Fine, fine_as}
 use Rattle.granit_canonical_steps.proofs.Nodes.{closer_starts, end_of_source, opener_starts, properties_read}
-use Rattle.granit_canonical_steps.proofs.Passing.{IsPlain, Passage, node_is_told, passage_none, passage_one, passage_then}
+use Rattle.granit_canonical_steps.proofs.Passing.{IsPlain, Passage, node_is_told, passage_none, passage_one}
+use Rattle.granit_canonical_steps.proofs.Passing.{passage_then}
 use Rattle.granit_canonical_steps.proofs.Passing.{place_in, plain_fits, shown_told}
 use Rattle.granit_canonical_steps.proofs.Places.{Before, Parts, Starts}
 use Rattle.granit_canonical_steps.proofs.Signs.{closes_bracket, opens_bracket}

@@ -12,7 +12,8 @@ use Rattle.granit_base.specs.declared.style.ScalarStyle.TheVariants.{DoubleQuote
 use Rattle.granit_canonical_steps.proofs.Calm.{Calm, Fine, fine_as, fine_if}
 use Rattle.granit_canonical_steps.proofs.Fronts.{tag_bytes_front}
 use Rattle.granit_canonical_steps.proofs.Names.{EndsName, tag_source, takes_alias, takes_anchor, takes_tag}
-use Rattle.granit_canonical_steps.proofs.Passing.{IsPlain, Passage, node_is_told, passage_none, passage_one, passage_then}
+use Rattle.granit_canonical_steps.proofs.Passing.{IsPlain, Passage, node_is_told, passage_none, passage_one}
+use Rattle.granit_canonical_steps.proofs.Passing.{passage_then}
 use Rattle.granit_canonical_steps.proofs.Passing.{place_in, plain_behind, plain_fits, shown_told}
 use Rattle.granit_canonical_steps.proofs.Places.{Before, Starts}
 use Rattle.granit_canonical_steps.proofs.Quotes.{takes_quoted}

@@ -1,4 +1,7 @@
 -- Where reading stands in a text: a place, and what is left there.
+pub use Rattle.granit_places.proofs.Counting.{column_behind, place_by}
+pub use Rattle.granit_places.proofs.KeysLaw.{fresh_some}
+pub use Rattle.granit_places.proofs.ColumnsLaw.{cols}
 use Rattle.std.proofs.Common.{List, Option, [], add-zero, ap, arith, false, length, refl, suc, sym, take}
 use Rattle.std.proofs.Common.{true, ℕ, ◌++◌, ◌+◌, ◌-◌, ◌==◌, ◌∙◌, ◌∷◌, ◌≡◌, ◌≢◌}
 use Rattle.std.specs.Prelude.{None, Some}

@@ -12,10 +12,12 @@ use Rattle.granit_base.specs.Classes.{is_break, is_printable}
 use Rattle.granit_base.specs.Place.{Mark, first}
 use Rattle.granit_base.specs.Written.{Written}
 use Rattle.granit_base.specs.declared.style.ScalarStyle.TheVariants.{DoubleQuoted}
-use Rattle.granit_canonical_steps.proofs.Calm.{Calm, Fine, Shape, calm_behind, calm_closed, calm_gap, calm_noded, cut_fits}
+use Rattle.granit_canonical_steps.proofs.Calm.{Calm, Fine, Shape, calm_behind, calm_closed, calm_gap, calm_noded}
+use Rattle.granit_canonical_steps.proofs.Calm.{cut_fits}
 use Rattle.granit_canonical_steps.proofs.Calm.{shape_flow, stands_inside, tabs_fit}
 use Rattle.granit_canonical_steps.proofs.Fronts.{quoted_front}
-use Rattle.granit_canonical_steps.proofs.Places.{Held, directly, fed, gap_stops, gap_to, left_of, marked, past_all, spaced}
+use Rattle.granit_canonical_steps.proofs.Places.{Held, directly, fed, gap_stops, gap_to, left_of, marked, past_all}
+use Rattle.granit_canonical_steps.proofs.Places.{spaced}
 use Rattle.granit_canonical_steps.proofs.Places.{tail_of, touching}
 use Rattle.granit_canonical_steps.proofs.Quoting.{all_itself, spelled_between}
 use Rattle.granit_canonical_steps.proofs.Signs.{source_is}
@@ -46,7 +48,7 @@ use Rattle.granit_machine.specs.LexemeSort.{Placed, QuoteSign}
 use Rattle.granit_machine.specs.PossibleKeys.{layout_of}
 use Rattle.granit_machine.specs.ReaderState.{ReaderState}
 use Rattle.granit_model.specs.FlowText.{quoted_characters}
-use Rattle.granit_reading.proofs.Deciding.{layout_is}
+use Rattle.granit_places.proofs.Counting.{layout_is}
 
 pub quote_begins : (flow adjacent : Bool) (column : ℕ) (text : List ℕ)
     → Begins flow adjacent column (0x22 ∷ text) (Placed (QuoteSign false))

@@ -4,7 +4,8 @@ use Rattle.std.proofs.Common.{◌++◌, ◌<◌, ◌==◌, ◌∙◌, ◌∷◌,
 use Rattle.std.specs.Prelude.{None, Some, if◌then◌else◌}
 use Rattle.granit_base.specs.Classes.{is_blank, is_blank_or_breakz, is_break, is_printable}
 use Rattle.granit_base.specs.Place.{Mark, first}
-use Rattle.granit_canonical_steps.proofs.Calm.{Calm, Fine, calm_behind, calm_closed, calm_forgets, calm_noded, calm_opened}
+use Rattle.granit_canonical_steps.proofs.Calm.{Calm, Fine, calm_behind, calm_closed, calm_forgets, calm_noded}
+use Rattle.granit_canonical_steps.proofs.Calm.{calm_opened}
 use Rattle.granit_canonical_steps.proofs.Calm.{calm_shut, curly_key, shape_flow, shape_innermost, shape_length}
 use Rattle.granit_canonical_steps.proofs.Calm.{stands_inside, top_mild}
 use Rattle.granit_canonical_steps.proofs.Places.{Held, Parts, Starts, held_on, marked, parts_gap, spaced}

@@ -16,7 +16,7 @@ use Rattle.granit_restart.specs.Calls.{Calls, failing, failing_by, failing_in, g
 use Rattle.granit_restart.specs.Calls.{noted}
 use Rattle.granit_restart.specs.Looking.{behind_waiting}
 use Rattle.granit_restart.specs.Skipping.{with_pending}
-use Rattle.granit_led.specs.Led.{Led, led_on}
+use Rattle.granit_alone.specs.Behind.{Led, led_on}
 use Rattle.granit_steps.specs.Steps.{first_pending, next_event, settle, step_size, step_turn, StepState, Turn}
 
 state_in : StepState → Turn → StepState

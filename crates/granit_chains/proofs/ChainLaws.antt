@@ -1,7 +1,10 @@
 -- A chain of recoveries that all tell of a document ends.
+pub use Rattle.granit_alone.proofs.EndMarks.{told_alone}
+pub use Rattle.granit_alone.proofs.AloneLaws.{answer_reads, any_fault_caused, begins_by, caused_by, reads_by}
+pub use Rattle.granit_alone.proofs.FaultLaws.{reached_led, recovery_gives}
+pub use Rattle.granit_alone.proofs.CallSteps.{goes_by}
 use Rattle.std.proofs.Common.{◌⊎◌, ◌+◌, ◌*◌, ◌≡◌, ℕ, zero, suc, ◌<◌, ◌≤◌, ◌||◌, inl, inr, Bool, true, false, Some}
 use Rattle.std.proofs.Common.{None, Result, Ok, Err, refl, sym, ap, subst, ◌∙◌, arith}
-use Rattle.granit_alone.proofs.FaultLaws.{reached_led}
 use Rattle.granit_alone.specs.Lines.{ComesOnward}
 use Rattle.granit_chains.proofs.CallsLeft.{early_leaves, CallLeaves, call_event, call_fault, call_leaves, call_none}
 use Rattle.granit_chains.proofs.CallsLeft.{LeavesOn}
@@ -21,8 +24,8 @@ use Rattle.granit_restart.specs.Calls.{Calls, GivenByCall, next_call}
 use Rattle.granit_restart.specs.Recovery.{looked_by, resumed, starts_by}
 use Rattle.granit_restart.specs.Skipping.{Stops}
 use Rattle.granit_restart.specs.Turned.{with_count}
-use Rattle.granit_led.specs.Led.{Led}
-use Rattle.granit_led.specs.Stopping.{FitBehind, looked_at}
+use Rattle.granit_alone.specs.Behind.{Led}
+use Rattle.granit_alone.specs.Behind.{FitBehind, looked_at}
 use Rattle.granit_steps.specs.Steps.{StepState}
 
 -- ---- between two recoveries

@@ -19,12 +19,12 @@ use Rattle.granit_restart.specs.Boundary.{AtStart, AtTextEnd, Boundary, next_bou
 use Rattle.granit_restart.specs.Following.{document_follows}
 use Rattle.granit_restart.specs.Restart.{anew, at_boundary, at_found, at_lexeme, behind_fault, behind_fault_at}
 use Rattle.granit_restart.specs.Restart.{boundary_of, cursor_at, is_boundary, lexeme_or, read_boundary}
-use Rattle.granit_behind.proofs.FoundLaws.{led_holds}
-use Rattle.granit_led.proofs.FoundMarks.{cursor_there, found_waiting}
-use Rattle.granit_led.proofs.MarkWaits.{none_waits}
-use Rattle.granit_led.proofs.StartsRead.{is_start, starts}
-use Rattle.granit_led.specs.Found.{StartRead}
-use Rattle.granit_led.specs.Led.{Led}
+use Rattle.granit_alone.proofs.EndMarks.{led_holds}
+use Rattle.granit_alone.proofs.EndMarks.{cursor_there, found_waiting}
+use Rattle.granit_alone.proofs.EndMarks.{none_waits}
+use Rattle.granit_alone.proofs.EndMarks.{is_start, starts}
+use Rattle.granit_alone.specs.Behind.{StartRead}
+use Rattle.granit_alone.specs.Behind.{Led}
 use Rattle.granit_steps.proofs.Futures.{Ready}
 use Rattle.granit_steps.specs.Steps.{StepState}
 

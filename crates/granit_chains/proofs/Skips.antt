@@ -21,10 +21,10 @@ use Rattle.granit_restart.specs.Restart.{behind_fault}
 use Rattle.granit_restart.specs.Skipping.{Ahead, ahead, ahead_by, AtStreamEnd, BehindDocument, Ended, ends_before}
 use Rattle.granit_restart.specs.Skipping.{Failed, NoEnd, restarted, skip_ahead, skip_by_turns, SkipEnd, skip_in}
 use Rattle.granit_restart.specs.Skipping.{skipped_document, skipped_fault, skipped_to, skip_turn, Stops, with_pending}
-use Rattle.granit_behind.proofs.FoundLaws.{led_holds}
-use Rattle.granit_led.proofs.LedLaws.{SkipLed, skip_led}
-use Rattle.granit_led.specs.Led.{Led, led_anew}
-use Rattle.granit_led.specs.Stopping.{DropFits, EndFits, FaultFits}
+use Rattle.granit_alone.proofs.EndMarks.{led_holds}
+use Rattle.granit_alone.proofs.FaultLaws.{SkipLed, skip_led}
+use Rattle.granit_alone.specs.Behind.{Led, led_anew}
+use Rattle.granit_alone.specs.Behind.{DropFits, EndFits, FaultFits}
 use Rattle.granit_steps.proofs.Futures.{turn_keeps, TurnKeeps}
 use Rattle.granit_steps.specs.Steps.{first_pending, next_event, step_size, step_turn, StepState, Turn}
 

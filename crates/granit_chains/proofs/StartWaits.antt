@@ -19,11 +19,11 @@ use Rattle.granit_restart.proofs.MarkLaws.{items, pushed_items}
 use Rattle.granit_restart.specs.Boundary.{AtStart, AtTextEnd, Boundary, next_boundary, PastEnd}
 use Rattle.granit_restart.specs.Restart.{at_boundary, at_found, at_lexeme, behind_fault, behind_fault_at, cursor_at}
 use Rattle.granit_restart.specs.Restart.{read_boundary}
-use Rattle.granit_behind.proofs.FoundLaws.{led_holds}
-use Rattle.granit_led.proofs.MarkWaits.{none_waits, one_waits}
-use Rattle.granit_led.proofs.StartsRead.{any_starts, is_start, starts}
-use Rattle.granit_led.proofs.StartWaits.{StartLast}
-use Rattle.granit_led.specs.Led.{Led, led_anew, led_keeping, led_on, led_start, led_with}
+use Rattle.granit_alone.proofs.EndMarks.{led_holds}
+use Rattle.granit_alone.proofs.EndMarks.{none_waits, one_waits}
+use Rattle.granit_alone.proofs.EndMarks.{any_starts, is_start, starts}
+use Rattle.granit_alone.proofs.EndMarks.{StartLast}
+use Rattle.granit_alone.specs.Behind.{Led, led_anew, led_keeping, led_on, led_start, led_with}
 use Rattle.granit_steps.proofs.Futures.{pushed_nil}
 use Rattle.granit_steps.proofs.KeyReads.{Items, Lexed, possibles, read_keys}
 use Rattle.granit_steps.specs.Steps.{front_turn, incoming, line_behind, may_go, pushed, read_more, read_unless}

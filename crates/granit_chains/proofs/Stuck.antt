@@ -16,7 +16,7 @@ use Rattle.granit_machine.specs.Lexing.{FlaggedItem}
 use Rattle.granit_machine.specs.Parser.{feed}
 use Rattle.granit_machine.specs.Reader.{behind_read, LexTurn, lex_turn, LexState, read}
 use Rattle.granit_machine.specs.ReaderState.{Read, ReaderState}
-use Rattle.granit_led.proofs.StartsRead.{is_start, starts}
+use Rattle.granit_alone.proofs.EndMarks.{is_start, starts}
 use Rattle.granit_steps.specs.Steps.{front_turn, line_behind, may_go, read_more, read_unless, step_turn, StepState}
 use Rattle.granit_steps.specs.Steps.{Turn, turn_by, with_fed, with_read}
 

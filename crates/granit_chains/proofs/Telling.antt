@@ -13,8 +13,8 @@ use Rattle.granit_restart.specs.Following.{document_follows}
 use Rattle.granit_restart.specs.Recovery.{extra_of, looked_by, recover, recovered, recovery_answer, recover_with}
 use Rattle.granit_restart.specs.Recovery.{resumed, skipped, skipped_by}
 use Rattle.granit_restart.specs.Skipping.{Stops}
-use Rattle.granit_led.specs.Led.{Led}
-use Rattle.granit_led.specs.Stopping.{FitBehind, looked_at, StopsFit}
+use Rattle.granit_alone.specs.Behind.{Led}
+use Rattle.granit_alone.specs.Behind.{FitBehind, looked_at, StopsFit}
 use Rattle.granit_steps.specs.Steps.{StepState}
 
 -- it goes on from here, and a document follows there

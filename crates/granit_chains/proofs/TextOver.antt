@@ -9,8 +9,8 @@ use Rattle.granit_machine.specs.Reader.{behind_read, lex_turn}
 use Rattle.granit_machine.specs.ReaderState.{Read, ReaderState}
 use Rattle.granit_restart.specs.Following.{document_follows, past_items, past_lexeme, past_read, past_reads}
 use Rattle.granit_restart.specs.Restart.{anew}
-use Rattle.granit_behind.proofs.LineGaps.{laid_at}
-use Rattle.granit_behind.proofs.TextEnds.{end_is_read, ReadsEnd}
+use Rattle.granit_alone.proofs.FaultLaws.{laid_at}
+use Rattle.granit_alone.proofs.FaultLaws.{end_is_read, ReadsEnd}
 use Rattle.granit_steps.specs.Steps.{incoming, StepState}
 
 kind_told : (kind : LexemeKind) (room : ℕ) (tail : Option CommentRead) (more : ℕ → Result Bool Fault)

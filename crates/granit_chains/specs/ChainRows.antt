@@ -8,7 +8,7 @@ use Rattle.granit_recovery.specs.RecoveryRows.{both_at}
 use Rattle.granit_restart.specs.Calls.{Calls, calls_start}
 use Rattle.granit_restart.specs.Recovery.{recover}
 use Rattle.granit_restart.specs.Skipping.{Ended, Failed, skip_by_turns, SkipEnd, Stops}
-use Rattle.granit_led.specs.Stopping.{looked_at}
+use Rattle.granit_alone.specs.Behind.{looked_at}
 use Rattle.granit_steps.specs.Steps.{start_from, StepState}
 
 -- reads that are refused stop where they began

@@ -1,7 +1,11 @@
 -- Recoveries one behind another that all tell of a document, and what is left at each.
+pub use Rattle.granit_alone.specs.Behind.{FaultFits}
+pub use Rattle.granit_alone.specs.Behind.{TellsMoved, behind_first}
+pub use Rattle.granit_alone.specs.Lines.{ComesOnward, CountsAt}
+pub use Rattle.granit_alone.specs.Alone.{BeginsAlone, CausedAlone, ReadsAlone, stream_start}
+pub use Rattle.granit_alone.specs.Behind.{GivesOn, IsOpen}
 use Rattle.std.specs.Prelude.{◌≡◌, ℕ, suc, ◌+◌, ◌*◌, ◌||◌, Bool, true, false, if◌then◌else◌, List, [], ◌∷◌, length}
 use Rattle.std.specs.Prelude.{is_some, Option, Some, None, Ok, Err}
-use Rattle.granit_alone.specs.Lines.{ComesOnward}
 use Rattle.granit_error.specs.OptionsData.{OptionsData}
 use Rattle.granit_lexemes.specs.Here.{text_len}
 use Rattle.granit_lexemes.specs.Outcome.{Fault}
@@ -13,7 +17,7 @@ use Rattle.granit_restart.specs.Calls.{Calls, next_call}
 use Rattle.granit_restart.specs.Recovery.{recover}
 use Rattle.granit_restart.specs.Skipping.{Stops}
 use Rattle.granit_restart.specs.Turned.{with_count}
-use Rattle.granit_led.specs.Stopping.{FitBehind, looked_at}
+use Rattle.granit_alone.specs.Behind.{FitBehind, looked_at}
 use Rattle.granit_steps.specs.Steps.{StepState}
 
 -- ---- what is left

@@ -9,7 +9,7 @@ ghost use Rattle.granit_recovery.specs.Streams.{ReachedByCalls, calls_from};
 ghost use Rattle.granit_restart.specs.Calls.{Calls, next_call};
 ghost use Rattle.granit_restart.specs.Recovery.{resumed};
 ghost use Rattle.granit_restart.specs.Skipping.{Stops};
-ghost use Rattle.granit_led.specs.Stopping.{FitBehind, looked_at};
+ghost use Rattle.granit_alone.specs.Behind.{FitBehind, looked_at};
 ghost use Rattle.granit_steps.specs.Steps.{StepState, step_turn};
 
 use granit_calls::an_open_call_gives_something;

@@ -1,4 +1,5 @@
 -- Where each comment's event stands among the others.
+pub use Rattle.granit_comment_room.proofs.RowsFirst.{Alike, fed_alike, first_refused, none_given, row_refuses}
 use Rattle.std.proofs.Common.{◌≡◌, ℕ, ◌-◌, ◌==◌, Bool, true, false, not, List, [], ◌∷◌, ◌++◌, Option, Some, None}
 use Rattle.std.proofs.Common.{Result, Ok, Err, ◌⊎◌, inl, inr, refl, sym, ap, subst, ◌∙◌, append_assoc}
 use Rattle.std.specs.Prelude.{if◌then◌else◌}
@@ -23,20 +24,23 @@ use Rattle.granit_machine.specs.Machine.{untailed, asked_items, feed_all}
 use Rattle.granit_machine.specs.NodeSteps.{Stepped}
 use Rattle.granit_machine.specs.Parser.{next_line, take_token, placed, hold, take_tail, feed}
 use Rattle.granit_machine.specs.TokenSort.{token_of}
-use Rattle.granit_quiet.specs.CommentEvents.{comment_event, comment_events, held_of, only_comments}
+use Rattle.granit_comment_room.specs.RefusedRows.{comment_event, comment_events, held_of, only_comments}
 use Rattle.granit_comment_places.specs.CommentPlaces.{IsAnchor, AreAnchors, StartsSequence, StandsBehind, directly}
 use Rattle.granit_comment_places.specs.CommentPlaces.{behind_empty, before_start, StandsAmong, tail_event}
-use Rattle.granit_quiet.specs.Quiet.{but_comments, quiet, waits_alone}
-use Rattle.granit_quiet.proofs.CommentLaws.{FedBy, CommentFed, lexeme_fed, comment_fed, then_feed, handed}
+use Rattle.granit_comment_room.specs.RefusedRows.{but_comments, quiet, waits_alone}
+use Rattle.granit_comment_room.proofs.RowsFirst.{FedBy, CommentFed, lexeme_fed, comment_fed}
+use Rattle.granit_comment_room.proofs.RowRuns.{then_feed, handed}
 use Rattle.granit_comment_places.proofs.GrowSteps.{full, MayBegin, EndsWith, Base, Grown, GrowsBy, dash_tail}
 use Rattle.granit_comment_places.proofs.GrowStream.{token_grows}
-use Rattle.granit_quiet.proofs.Quieting.{but_append, untold_last}
-use Rattle.granit_feeding.proofs.RoomSteps.{Calm, CalmBy, room_by, FreshBy, LeavesBy}
-use Rattle.granit_feeding.proofs.RoomStream.{token_leaves}
-use Rattle.granit_quiet.proofs.TellStream.{items_told}
-use Rattle.granit_quiet.proofs.Telling.{only_append}
+use Rattle.granit_comment_room.proofs.RowsFirst.{but_append}
+use Rattle.granit_comment_room.proofs.RowRuns.{untold_last}
+use Rattle.granit_comment_room.proofs.RowRuns.{Calm, room_by, FreshBy, LeavesBy}
+use Rattle.granit_comment_room.proofs.RowsFirst.{CalmBy}
+use Rattle.granit_comment_room.proofs.RowRuns.{token_leaves}
+use Rattle.granit_comment_room.proofs.RowsFirst.{items_told}
+use Rattle.granit_comment_room.proofs.RowsFirst.{only_append}
 use Rattle.granit_comment_room.proofs.RowRuns.{of_lexeme, asked_append}
-use Rattle.granit_feeding.proofs.RoomSteps.{calm_by}
+use Rattle.granit_comment_room.proofs.RowsFirst.{calm_by}
 
 -- ---- one item in front of others
 

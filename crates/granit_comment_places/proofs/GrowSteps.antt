@@ -42,7 +42,7 @@ use Rattle.granit_machine.specs.TokenSort.{TokenSort, BeginsKey, BeginsNode, Que
 use Rattle.granit_machine.specs.TokenSort.{KeyedColon, CommaToken, SequenceCloser, MappingCloser, Token, is_dash_token}
 use Rattle.granit_machine.specs.TokenSort.{token_column, is_in_column, is_right_of, begins_node, begins_pair}
 use Rattle.granit_machine.proofs.ClosingLemmas.{no_dash_pair}
-use Rattle.granit_quiet.specs.CommentEvents.{held_of, comment_event}
+use Rattle.granit_comment_room.specs.RefusedRows.{held_of, comment_event}
 use Rattle.granit_comment_places.specs.CommentPlaces.{AreAnchors, SequenceStarted}
 
 -- ---- what a step adds

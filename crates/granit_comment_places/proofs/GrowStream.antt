@@ -30,11 +30,12 @@ use Rattle.granit_machine.specs.TokenSort.{Token, token_sort, token_of, is_dash_
 use Rattle.granit_machine.specs.TokenSort.{is_bare_colon, begins_node}
 use Rattle.granit_comment_places.proofs.GrowSteps.{More, Grown, same, more_then, grown_of, grown_on}
 use Rattle.granit_comment_places.proofs.GrowSteps.{Mores, mores_ok, mores_err, mores_if, mores_from, Grows, grows_of}
-use Rattle.granit_comment_places.proofs.GrowSteps.{grows_err, give_full, give_more, flush_full, finish_full, end_node_grown}
+use Rattle.granit_comment_places.proofs.GrowSteps.{grows_err, give_full, give_more, flush_full, finish_full}
+use Rattle.granit_comment_places.proofs.GrowSteps.{end_node_grown}
 use Rattle.granit_comment_places.proofs.GrowSteps.{end_properties_more, dash_tail, TailOf, node_mores, TailSorted}
 use Rattle.granit_comment_places.proofs.GrowSteps.{in_sequence_grows, in_mapping_grows, in_flow_sequence_grows}
 use Rattle.granit_comment_places.proofs.GrowSteps.{flow_mapping_grows, flow_pair_grows}
-use Rattle.granit_quiet.proofs.TellStream.{no_dash_colon, colon_left}
+use Rattle.granit_comment_room.proofs.RowsFirst.{no_dash_colon, colon_left}
 
 -- ---- closing
 

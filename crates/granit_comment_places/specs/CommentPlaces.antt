@@ -1,4 +1,5 @@
 -- Where the comments stand among the other events (YAML 1.2.2, 6.6).
+pub use Rattle.granit_comment_room.specs.RefusedRows.{FirstRow, NoRow, RefusesRow}
 use Rattle.std.specs.Prelude.{◌≡◌, ℕ, false, List, [], ◌∷◌, ◌++◌, Option, Some, Ok}
 use Rattle.granit_base.specs.declared.style.Placement.TheVariants.{Right}
 use Rattle.granit_base.specs.declared.style.StructureStyle.TheVariants.{Block}
@@ -11,8 +12,9 @@ use Rattle.granit_machine.specs.Giving.{null_at}
 use Rattle.granit_machine.specs.Lexing.{FlaggedItem}
 use Rattle.granit_machine.specs.Machine.{asked_items, feed_all}
 use Rattle.granit_machine.specs.Parser.{placed}
-use Rattle.granit_quiet.specs.CommentEvents.{comment_event, comment_events, only_comments}
-use Rattle.granit_quiet.specs.Quiet.{but_comments, quiet}
+use Rattle.granit_comment_room.specs.RefusedRows.{comment_events, only_comments}
+pub use Rattle.granit_comment_room.specs.RefusedRows.{comment_event}
+use Rattle.granit_comment_room.specs.RefusedRows.{but_comments, quiet}
 
 -- the event of a comment behind a lexeme on its line, with the line of the next token
 abbrev pub tail_event : LexemeKind → CommentRead → Option ℕ → PlainEvent

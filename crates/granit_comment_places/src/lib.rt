@@ -3,4 +3,6 @@
 
 mod places;
 
-pub use places::{each_comment_is_placed_as_declared, each_comment_stands_behind_what_is_before_it};
+pub use places::{
+    each_comment_is_placed_as_declared, each_comment_stands_behind_what_is_before_it,
+};

@@ -1,7 +1,7 @@
 //! Where comments stand among events, and how each is placed.
 ghost use Rattle.granit_base.specs.declared.style.Placement.{Placement};
 ghost use Rattle.granit_error.specs.OptionsData.{OptionsData};
-ghost use Rattle.granit_quiet.specs.CommentEvents.{comment_event};
+ghost use Rattle.granit_comment_room.specs.RefusedRows.{comment_event};
 ghost use Rattle.granit_comment_places.specs.CommentPlaces.{StandsAmong, tail_event};
 ghost use Rattle.granit_comment_places.specs.Placements.{PlacedAs};
 ghost use Rattle.granit_lexemes.specs.Comment.{CommentRead};

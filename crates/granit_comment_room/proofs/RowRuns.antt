@@ -20,16 +20,17 @@ use Rattle.granit_machine.specs.NodeSteps.{Stepped, dash_room}
 use Rattle.granit_machine.specs.Closing.{close}
 use Rattle.granit_machine.specs.Parser.{next_line, take_token, placed, hold, take_tail, feed}
 use Rattle.granit_machine.specs.TokenSort.{token_of}
-use Rattle.granit_quiet.proofs.CommentLaws.{then_feed, handed}
+pub use Rattle.granit_quiet.proofs.CommentLaws.{handed, then_feed}
 use Rattle.granit_quiet.specs.CommentEvents.{comment_event}
 use Rattle.granit_comment_room.specs.RefusedRows.{RefusesRow}
-use Rattle.granit_language.specs.CommentRows.{AreComments, tail_comments}
+use Rattle.granit_quiet.specs.Quiet.{AreComments, tail_comments}
 use Rattle.granit_quiet.specs.Quiet.{but_comments, quiet, waits_alone}
-use Rattle.granit_quiet.proofs.Quieting.{untold_last}
+pub use Rattle.granit_quiet.proofs.Quieting.{untold_last}
 use Rattle.granit_quiet.proofs.QuietSteps.{FitsBy, untailed_token}
 use Rattle.granit_quiet.proofs.QuietStream.{token_fits}
-use Rattle.granit_feeding.proofs.RoomSteps.{Calm, CalmBy, room_by, FreshBy, LeavesBy}
-use Rattle.granit_feeding.proofs.RoomStream.{token_leaves}
+use Rattle.granit_feeding.proofs.RoomSteps.{CalmBy}
+pub use Rattle.granit_feeding.proofs.RoomSteps.{Calm, FreshBy, LeavesBy, room_by}
+pub use Rattle.granit_feeding.proofs.RoomStream.{token_leaves}
 
 abbrev pub of_lexeme : Lexeme → Bool → FlaggedItem
 of_lexeme l b = record { item = OfLexeme l; begins_key = b }

@@ -1,4 +1,9 @@
 -- The first comment too many is what items are refused for.
+pub use Rattle.granit_feeding.proofs.RoomSteps.{CalmBy, calm_by}
+pub use Rattle.granit_quiet.proofs.Telling.{only_append}
+pub use Rattle.granit_quiet.proofs.TellStream.{colon_left, items_told, no_dash_colon}
+pub use Rattle.granit_quiet.proofs.Quieting.{but_append}
+pub use Rattle.granit_quiet.proofs.CommentLaws.{CommentFed, FedBy, comment_fed, lexeme_fed}
 use Rattle.std.proofs.Common.{◌≡◌, ℕ, suc, ◌+◌, Bool, false, arith, List, [], ◌∷◌, ◌++◌, length, ◌⊎◌, inl, inr, Option}
 use Rattle.std.proofs.Common.{Some, None, Ok, Err, refl, sym, ap, subst, ◌∙◌, append_assoc}
 use Rattle.std.proofs.lemmas.List.{append-nil}
@@ -9,7 +14,7 @@ use Rattle.granit_lexemes.specs.Outcome.{Fault, fault_at, ◌>>=◌}
 use Rattle.granit_error.specs.FaultKind.{TooManyComments}
 use Rattle.granit_lexemes.specs.Pieces.{with_front}
 use Rattle.granit_lexemes.specs.PlainEvent.{PlainEvent}
-use Rattle.granit_language.specs.CommentRows.{AreComments, tail_comments}
+use Rattle.granit_quiet.specs.Quiet.{AreComments, tail_comments}
 use Rattle.granit_machine.proofs.ClosingLemmas.{FeedGiven}
 use Rattle.granit_machine.specs.Frames.{Waiting, ParserState}
 use Rattle.granit_machine.specs.Lexing.{FlaggedItem}
@@ -18,7 +23,6 @@ use Rattle.granit_machine.specs.Parser.{next_line, feed}
 use Rattle.granit_quiet.specs.Quiet.{quiet, waits_alone}
 use Rattle.granit_comment_room.specs.RefusedRows.{RefusesRow, NoRow, FirstRow}
 use Rattle.granit_quiet.proofs.CommentLaws.{items_given}
-use Rattle.granit_feeding.proofs.RoomSteps.{CalmBy}
 use Rattle.granit_comment_room.proofs.RowRuns.{of_lexeme, asked_append, RowBehind, RowBy, Behind, StepRows}
 use Rattle.granit_comment_room.proofs.RowRuns.{length_last, bare_front, item_rows}
 

@@ -1,7 +1,9 @@
 -- Items that are refused for a comment too many in a row behind a lexeme whose node waits.
+pub use Rattle.granit_quiet.specs.Quiet.{but_comments, quiet, waits_alone}
+pub use Rattle.granit_quiet.specs.CommentEvents.{comment_event, comment_events, held_of, only_comments}
 use Rattle.std.specs.Prelude.{◌≡◌, false, List, Some, Ok}
 use Rattle.granit_error.specs.OptionsData.{OptionsData}
-use Rattle.granit_language.specs.CommentRows.{RowTooLong, up_to}
+use Rattle.granit_quiet.specs.Quiet.{RowTooLong, up_to}
 use Rattle.granit_lexemes.specs.Outcome.{Fault}
 use Rattle.granit_lexemes.specs.PlainEvent.{PlainEvent}
 use Rattle.granit_machine.specs.Frames.{Waiting, ParserState}

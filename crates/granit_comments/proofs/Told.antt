@@ -11,10 +11,10 @@ use Rattle.granit_before.specs.ToldComments.{TailPlaced}
 use Rattle.granit_comments.specs.TextComments.{LinesStand, TailsStand, TellsComments, TellsEach}
 use Rattle.granit_comments.specs.TextComments.{behind_lexeme, between_lexemes, no_comment, no_more}
 use Rattle.granit_error.specs.OptionsData.{OptionsData}
-use Rattle.granit_comment_places.proofs.PlacementLaw.{one_placement, placed_is}
+use Rattle.granit_before.proofs.Numbered.{one_placement, placed_is}
 use Rattle.granit_quiet.specs.CommentEvents.{comment_event, comment_events, item_events, only_comments}
 use Rattle.granit_quiet.specs.CommentEvents.{tail_events}
-use Rattle.granit_comment_places.specs.CommentPlaces.{tail_event}
+use Rattle.granit_before.specs.ToldComments.{tail_event}
 use Rattle.granit_quiet.specs.Quiet.{but_comments}
 use Rattle.granit_lexemes.specs.Comment.{CommentRead}
 use Rattle.granit_lexemes.specs.Here.{start_of}

@@ -5,7 +5,7 @@ use Rattle.granit_base.specs.declared.style.Placement.{Placement}
 use Rattle.granit_before.specs.ToldComments.{TailPlaced}
 use Rattle.granit_error.specs.OptionsData.{OptionsData}
 use Rattle.granit_quiet.specs.CommentEvents.{comment_event, only_comments}
-use Rattle.granit_comment_places.specs.Placements.{PlacedAs}
+use Rattle.granit_before.specs.ToldComments.{PlacedAs}
 use Rattle.granit_quiet.specs.Quiet.{asking, but_comments}
 use Rattle.granit_language.specs.Reached.{ReadWhole}
 use Rattle.granit_language.specs.TextFault.{NoneTold}

@@ -12,7 +12,7 @@ use Rattle.granit_lexemes.specs.Here.{Here, text_len, next_char, mark_of, past}
 use Rattle.granit_lexemes.specs.Moves.{steps}
 use Rattle.granit_lexemes.specs.Outcome.{Fault, fault_at, ◌>>=◌}
 use Rattle.granit_lexemes.specs.Tail.{tail_behind, tail_at}
-use Rattle.granit_scalars.proofs.Comments.{steps_text}
+use Rattle.granit_quoted.proofs.SeenQuoted.{steps_text}
 use Rattle.granit_cursor.specs.Reading.{coded}
 use Rattle.granit_cursor.proofs.MoveLemmas.{steps_past}
 use Rattle.granit_content.specs.Reads.{Nothing, seen, seen_comment}

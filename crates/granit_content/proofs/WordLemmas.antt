@@ -16,7 +16,7 @@ use Rattle.granit_lexemes.specs.Outcome.{Fault}
 use Rattle.granit_lexemes.specs.PlainExtent.{is_flow_dash}
 use Rattle.granit_lexemes.specs.PlainScalar.{PlainRead, plain_scalar}
 use Rattle.granit_lexemes.proofs.HereLemmas.{step_text}
-use Rattle.granit_scalars.proofs.Comments.{steps_text}
+use Rattle.granit_quoted.proofs.SeenQuoted.{steps_text}
 use Rattle.granit_plain.proofs.WordScalars.{stop_alone, words_and_line, words_no_dash, words_read}
 
 -- what is read of a scalar by its text and the mark behind it

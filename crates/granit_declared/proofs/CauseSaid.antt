@@ -14,9 +14,10 @@ use Rattle.granit_machine.specs.Laid.{Laid}
 use Rattle.granit_machine.specs.Lexing.{FlaggedItem, flagged}
 use Rattle.granit_machine.specs.PossibleKeys.{is_possible}
 use Rattle.granit_machine.specs.ReaderState.{ReaderState, reader_start}
-use Rattle.granit_reading.proofs.ReadingLaw.{lexed}
-use Rattle.granit_reading.proofs.WholeLaw.{all_read_whole}
-use Rattle.granit_declared.proofs.CertainSaid.{possible_decided, front_certain, front_settled, told_before, items_before}
+use Rattle.granit_order.proofs.BracketsKept.{lexed}
+use Rattle.granit_order.proofs.BracketsKept.{all_read_whole}
+use Rattle.granit_declared.proofs.CertainSaid.{possible_decided, front_certain, front_settled, told_before}
+use Rattle.granit_declared.proofs.CertainSaid.{items_before}
 use Rattle.granit_declared.proofs.KeyFlags.{items_same, flags_said}
 use Rattle.granit_declared.proofs.ReadingSaid.{flags_once}
 use Rattle.granit_declared.specs.DeclaredCause.{AllItems, MayBegin, NoneAmong, LexemesCause, at_end, at_stop}

@@ -17,10 +17,11 @@ use Rattle.granit_machine.specs.Lexing.{FlaggedItem}
 use Rattle.granit_machine.specs.PossibleKeys.{is_possible}
 use Rattle.granit_machine.specs.Reader.{is_end}
 use Rattle.granit_machine.specs.ReaderState.{ReaderState, reader_start}
-use Rattle.granit_places.proofs.ColumnsWhole.{latest_noted, latest_joined}
-use Rattle.granit_reading.proofs.ReadingLaw.{lexed}
-use Rattle.granit_places.proofs.Telling.{telling}
-use Rattle.granit_reading.proofs.WholeLaw.{all_read_whole}
+use Rattle.granit_before.proofs.Numbered.{latest_noted}
+use Rattle.granit_before.proofs.QuestionSaid.{latest_joined}
+use Rattle.granit_order.proofs.BracketsKept.{lexed}
+use Rattle.granit_before.proofs.Numbered.{telling}
+use Rattle.granit_order.proofs.BracketsKept.{all_read_whole}
 use Rattle.granit_declared.proofs.StillSaid.{still_said}
 use Rattle.granit_before.specs.Certain.{NoneMay, FirstMay, CertainFront, ItemMay, NoItemMay, FirstItemMay}
 use Rattle.granit_before.specs.Certain.{ToldBeforeFault}

@@ -1,10 +1,11 @@
 -- The comments of items are told as declared, and in one way.
+pub use Rattle.granit_before.proofs.Numbered.{lines_fit}
 use Rattle.std.proofs.Common.{◌≡◌, List, [], ◌∷◌, ◌++◌, Option, Some, None, refl, sym, ap, ap₂, ◌∙◌}
 use Rattle.granit_base.specs.declared.style.Placement.{Placement}
 use Rattle.granit_base.specs.declared.style.Placement.TheVariants.{Right}
-use Rattle.granit_comment_places.proofs.PlacementLaw.{placed_is, one_placement}
-use Rattle.granit_quiet.specs.CommentEvents.{comment_event, tail_events, item_events, comment_events}
-use Rattle.granit_comment_places.specs.Placements.{PlacedAs}
+use Rattle.granit_before.proofs.Numbered.{placed_is, one_placement}
+use Rattle.granit_order.specs.Answers.{comment_event, tail_events, item_events, comment_events}
+use Rattle.granit_before.specs.ToldComments.{PlacedAs}
 use Rattle.granit_lexemes.specs.Comment.{CommentRead}
 use Rattle.granit_lexemes.specs.Lexeme.{LexemeKind, Dash, Item, OfLexeme, OfComment}
 use Rattle.granit_lexemes.specs.PlainEvent.{PlainEvent}

@@ -1,4 +1,5 @@
 -- What each lexeme of a text bears is what the lexemes before it say.
+pub use Rattle.granit_order.proofs.KeysMoved.{clash}
 use Rattle.std.proofs.Common.{◌≡◌, ℕ, ◌&&◌, ◌||◌, not, Bool, true, false, List, [], ◌∷◌, ◌++◌, map, Option, Some}
 use Rattle.std.proofs.Common.{None, inl, inr, refl, sym, ap, ap₂, ◌∙◌, subst, arith}
 use Rattle.std.proofs.Math.Nat.{le_refl}
@@ -29,15 +30,16 @@ use Rattle.granit_machine.specs.NodeLexemes.{note_items}
 use Rattle.granit_machine.specs.PossibleKeys.{fresh_bracket}
 use Rattle.granit_machine.specs.Reader.{is_end}
 use Rattle.granit_machine.specs.ReaderState.{ReaderState, reader_start}
-use Rattle.granit_places.proofs.ColumnsKept.{at_most_has}
-use Rattle.granit_places.proofs.ColumnsLaw.{front_flow, cols}
-use Rattle.granit_places.proofs.ColumnsWhole.{agrees_said, fresh_said}
-use Rattle.granit_places.proofs.Counting.{At, start_at}
-use Rattle.granit_reading.proofs.Deciding.{flow_decided}
-use Rattle.granit_places.proofs.Moving.{closed_held, lexeme_moved}
+use Rattle.granit_before.proofs.HeldLow.{at_most_has}
+use Rattle.granit_before.proofs.HeldWhole.{front_flow}
+use Rattle.granit_before.proofs.HeldLow.{cols}
+use Rattle.granit_before.proofs.HeldWhole.{agrees_said, fresh_said}
+use Rattle.granit_before.proofs.TabsWhole.{At, start_at}
+use Rattle.granit_order.proofs.BracketsKept.{flow_decided}
+use Rattle.granit_before.proofs.Numbered.{closed_held, lexeme_moved}
 use Rattle.granit_key_runs.proofs.RunsKept.{Signed}
 use Rattle.granit_key_runs.proofs.RunsWhole.{read_runs, start_says}
-use Rattle.granit_places.proofs.Telling.{SaysOf, gap_agrees, telling}
+use Rattle.granit_before.proofs.Numbered.{SaysOf, gap_agrees, telling}
 use Rattle.granit_before.proofs.HeldWhole.{HeldSay, read_held, inside_said}
 use Rattle.granit_before.specs.Fields.{EndsColumn, FieldsSay, AllFieldsSay}
 use Rattle.granit_before.proofs.TabsLeft.{same_head}

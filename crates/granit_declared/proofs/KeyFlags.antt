@@ -16,7 +16,7 @@ use Rattle.granit_lexemes.specs.Lexeme.{LexemeKind, Colon, KeyStart, Lexeme, Ite
 use Rattle.granit_machine.specs.Lexing.{is_nearest, others, and_key, flag_lexeme, flagging}
 use Rattle.granit_machine.specs.Lexing.{flagged}
 use Rattle.granit_machine.specs.ReaderState.{ReaderState, reader_start}
-use Rattle.granit_places.proofs.KeysLaw.{keys_fit}
+pub use Rattle.granit_before.proofs.Numbered.{keys_fit}
 use Rattle.granit_key_runs.proofs.RunsOnce.{run_once, none_ends}
 use Rattle.granit_key_runs.proofs.RunsWhole.{colons_said}
 use Rattle.granit_before.proofs.Numbered.{Bears, ItemsBear, one_end, run_ends_in, ends_numbered, items_bear}

@@ -21,16 +21,19 @@ use Rattle.granit_machine.specs.Laid.{Laid, is_in_flow, is_nonempty}
 use Rattle.granit_machine.specs.PossibleKeys.{is_stale, fresh_key, fresh_bracket}
 use Rattle.granit_machine.specs.Reader.{is_end}
 use Rattle.granit_machine.specs.ReaderState.{ReaderState, reader_start}
-use Rattle.granit_places.proofs.ColumnsLaw.{closed_brackets, closed_key}
-use Rattle.granit_places.proofs.ColumnsWhole.{latest_noted, latest_joined}
-use Rattle.granit_places.proofs.Counting.{At, start_at}
-use Rattle.granit_places.proofs.KeysLaw.{fresh_some}
-use Rattle.granit_places.proofs.PlacesLaw.{gap_passes, given_places}
+use Rattle.granit_before.proofs.HeldWhole.{closed_brackets}
+use Rattle.granit_before.proofs.HeldSteps.{closed_key}
+use Rattle.granit_before.proofs.Numbered.{latest_noted}
+use Rattle.granit_before.proofs.QuestionSaid.{latest_joined}
+use Rattle.granit_before.proofs.TabsWhole.{At, start_at}
+use Rattle.granit_before.proofs.Numbered.{fresh_some}
+use Rattle.granit_before.proofs.TabsWhole.{gap_passes, given_places}
 use Rattle.granit_key_runs.proofs.RunsKept.{Signed}
 use Rattle.granit_key_runs.proofs.RunsLaw.{Onward, onward, fresh_near}
 use Rattle.granit_key_runs.proofs.RunsOnce.{whole_once}
 use Rattle.granit_key_runs.proofs.RunsWhole.{read_runs, start_says}
-use Rattle.granit_places.proofs.Telling.{Agrees, gap_agrees, telling}
+use Rattle.granit_before.proofs.HeldWhole.{Agrees}
+use Rattle.granit_before.proofs.Numbered.{gap_agrees, telling}
 use Rattle.granit_declared.proofs.Bracketed.{opened}
 use Rattle.granit_before.proofs.HeldWhole.{opener_of, HeldSay, read_held}
 use Rattle.granit_declared.proofs.OuterKey.{Near, Moves, moves, opened_line, opens_it, still_open, Kept}

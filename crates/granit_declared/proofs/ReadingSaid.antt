@@ -7,7 +7,7 @@ use Rattle.std.proofs.lemmas.List.{append-nil}
 use Rattle.granit_error.specs.OptionsData.{OptionsData}
 use Rattle.granit_lexemes.proofs.PieceLemmas.{fault_none}
 use Rattle.granit_order.specs.Answers.{AnswersReading}
-use Rattle.granit_quiet.specs.CommentEvents.{comment_events, only_comments}
+use Rattle.granit_order.specs.Answers.{comment_events, only_comments}
 use Rattle.granit_language.specs.OpenColumns.{latest}
 use Rattle.granit_language.specs.Reached.{Reached, ReadWhole}
 use Rattle.granit_language.specs.Seen.{terminal_seen, lexemes_flagged}
@@ -19,8 +19,9 @@ use Rattle.granit_lexemes.specs.PlainEvent.{PlainEvent}
 use Rattle.granit_machine.specs.Laid.{Laid}
 use Rattle.granit_machine.specs.Lexing.{FlaggedItem, flagged}
 use Rattle.granit_machine.specs.ReaderState.{ReaderState, reader_start}
-use Rattle.granit_reading.proofs.ReadingLaw.{lexed}
-use Rattle.granit_reading.proofs.WholeLaw.{lexed_whole, all_read_whole}
+use Rattle.granit_order.proofs.BracketsKept.{lexed}
+use Rattle.granit_order.proofs.BracketsKept.{lexed_whole}
+use Rattle.granit_order.proofs.BracketsKept.{all_read_whole}
 use Rattle.granit_declared.proofs.CommentsSaid.{comments_told, one_telling}
 use Rattle.granit_declared.proofs.KeyFlags.{items_same, flags_said}
 use Rattle.granit_declared.specs.DeclaredReading.{DeclaredReading}

@@ -1,8 +1,9 @@
 -- What a text is read as, and its answer, without a function that reads or flags.
+pub use Rattle.granit_order.specs.Answers.{AnswersReading}
 use Rattle.std.specs.Prelude.{◌≡◌, ℕ, true, List, [], map}
 use Rattle.granit_error.specs.OptionsData.{OptionsData}
-use Rattle.granit_quiet.specs.CommentEvents.{only_comments}
-use Rattle.granit_quiet.specs.Quiet.{but_comments}
+use Rattle.granit_order.specs.Answers.{only_comments}
+use Rattle.granit_order.specs.Answers.{but_comments}
 use Rattle.granit_language.specs.Reached.{ReadWhole}
 use Rattle.granit_language.specs.Seen.{terminal_seen, lexemes_flagged}
 use Rattle.granit_language.specs.Telling.{events_told}
@@ -13,8 +14,8 @@ use Rattle.granit_lexemes.specs.Here.{start_of}
 use Rattle.granit_lexemes.specs.PlainEvent.{PlainEvent}
 use Rattle.granit_machine.specs.Lexing.{FlaggedItem}
 use Rattle.granit_machine.specs.ReaderState.{ReaderState, reader_start}
-use Rattle.granit_before.specs.KeyBegins.{items_of, FlagsSay}
-use Rattle.granit_before.specs.ToldComments.{CommentsTold}
+pub use Rattle.granit_before.specs.KeyBegins.{FlagsSay, items_of}
+pub use Rattle.granit_before.specs.ToldComments.{CommentsTold}
 
 -- All items of a text stand in it up to its end, each flagged where a simple key begins with it. Comments aside, these
 -- events are those of the one reading of the lexemes. Where comments are asked for, they are those of the items,

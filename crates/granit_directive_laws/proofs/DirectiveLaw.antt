@@ -27,7 +27,7 @@ use Rattle.granit_lexemes.specs.DirectiveExtent.{PrefixStands, WordsStand, Conti
 use Rattle.granit_lexemes.specs.DirectiveExtent.{DirectiveStands, WrongContinuation, version as wrong_version}
 use Rattle.granit_lexemes.specs.DirectiveExtent.{handle as wrong_handle, long_handle, long_words, long_blanks}
 use Rattle.granit_lexemes.specs.DirectiveExtent.{many_words, WrongDirective, nameless, wrong_name, long_name, behind}
-use Rattle.granit_names.proofs.Runs.{count_over, text_over}
+use Rattle.granit_handles.proofs.VersionLaw.{count_over, text_over}
 use Rattle.granit_handles.proofs.VersionLaw.{all_over, all_past, VersionRead, read_version, wrong_version as no_version}
 use Rattle.granit_handles.proofs.VersionLaw.{version_reads, version_is}
 use Rattle.granit_lexemes.specs.DirectiveCause.{FirstBehind, FirstWrong}

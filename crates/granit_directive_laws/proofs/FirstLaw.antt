@@ -35,7 +35,7 @@ use Rattle.granit_directive_laws.proofs.LineLaw.{line_end_wrong}
 use Rattle.granit_handles.proofs.ReservedLaw.{budget, reading, bytes-append, long_here, wide_here, many_here}
 use Rattle.granit_handles.proofs.ReservedLaw.{reserved_fails}
 use Rattle.granit_handles.proofs.ReservedLaw.{reserved_over}
-use Rattle.granit_names.proofs.TagLaw.{some_is}
+use Rattle.granit_handles.proofs.VersionLaw.{some_is}
 use Rattle.granit_handles.proofs.VersionLaw.{no_blank_nul, all_past, number_run, number_is}
 use Rattle.granit_scalars.proofs.QuotedEscapes.{over_text}
 

@@ -17,15 +17,16 @@ use Rattle.granit_lexemes.specs.Outcome.{Fault, fault_at}
 use Rattle.granit_lexemes.specs.PlainExtent.{over}
 use Rattle.granit_lexemes.specs.TagExtent.{WrongEscapes, digits, inside, leading, trailing, no_character}
 use Rattle.granit_lexemes.specs.DirectiveCause.{escapes_read, prefix_read}
-use Rattle.granit_handles.proofs.HandleLaw.{is_uri_or_blank, tag_uri, blank_part, uri_part, each_as, part_bytes, bang_uri}
+use Rattle.granit_handles.proofs.HandleLaw.{is_uri_or_blank, tag_uri, blank_part, uri_part, each_as, part_bytes}
+use Rattle.granit_handles.proofs.HandleLaw.{bang_uri}
 use Rattle.granit_handles.proofs.HandleLaw.{PrefixLineRead, read_tag, wrong_tag, passed_tag, tag_reads}
 use Rattle.granit_handles.proofs.HandleOnce.{ends_no_uri, handle_each}
-use Rattle.granit_names.proofs.Kept.{each-append}
-use Rattle.granit_names.proofs.LimitedEscapes.{Limit, room}
+use Rattle.granit_handles.proofs.HandleOnce.{each-append}
+use Rattle.granit_handles.proofs.LimitedTag.{Limit, room}
 use Rattle.granit_handles.proofs.LimitedTag.{prefix_fails, prefix_passes}
-use Rattle.granit_names.proofs.Spelling.{uri_class, escapes_spell, spelled_each}
+use Rattle.granit_handles.proofs.TagFronts.{uri_class, escapes_spell, spelled_each}
 use Rattle.granit_handles.proofs.TagFronts.{front_short}
-use Rattle.granit_names.proofs.TagLaw.{alpha_tag}
+use Rattle.granit_handles.proofs.HandleOnce.{alpha_tag}
 
 -- ---- what is read of `%TAG` is ASCII
 

@@ -1,4 +1,7 @@
 -- What stands behind a directive on its line, and a directive with its line's end.
+pub use Rattle.granit_handles.proofs.TagFronts.{tag_refused, tag_stands}
+pub use Rattle.granit_handles.proofs.TagFronts.{name_is, name_refused, name_stands}
+pub use Rattle.granit_handles.proofs.TagFronts.{tag_is}
 use Rattle.std.proofs.Common.{◌≡◌, ℕ, suc, ◌==◌, Bool, true, false, not, ◌&&◌, ◌||◌, List, [], ◌∷◌, length, drop}
 use Rattle.std.proofs.Common.{Option, Some, None, inl, inr, ◌⊎◌, Result, Ok, Err, refl, sym, ap, ◌∙◌, subst, arith}
 use Rattle.std.specs.Prelude.{if◌then◌else◌}
@@ -31,7 +34,7 @@ use Rattle.granit_scalars.proofs.Nameless.{IsNameless, comment_none}
 use Rattle.granit_scalars.proofs.QuotedEscapes.{over_text}
 use Rattle.granit_lexemes.specs.DirectiveCause.{DirectiveCause}
 use Rattle.granit_scalars.proofs.CommentCauses.{comment_spoiled}
-use Rattle.granit_names.proofs.Runs.{count_over}
+use Rattle.granit_handles.proofs.VersionLaw.{count_over}
 use Rattle.granit_handles.proofs.VersionLaw.{no_blank_nul, all_over, all_past}
 use Rattle.granit_directive_laws.proofs.DirectiveLaw.{DirectiveAnswered, directive_answered, directive_is}
 

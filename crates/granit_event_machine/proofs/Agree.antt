@@ -1,8 +1,10 @@
 -- The event machine gives the events of the stream that is read, or the fault of the open place.
 use Rattle.std.proofs.Common.{◌≡◌, List, [], ◌∷◌, ◌++◌, refl, sym, ◌∙◌, subst}
 use Rattle.granit_base.specs.Place.{Mark}
-use Rattle.granit_event_machine.specs.EventMachine.{EventState, IsFresh, Ending, ending, ended_by, EventStep, take_frames}
-use Rattle.granit_event_machine.specs.EventMachine.{EventAnswer, Events, Faulty, Unfinished, events_before, outcome_at_end}
+use Rattle.granit_event_machine.specs.EventMachine.{EventState, IsFresh, Ending, ending, ended_by, EventStep}
+use Rattle.granit_event_machine.specs.EventMachine.{take_frames}
+use Rattle.granit_event_machine.specs.EventMachine.{EventAnswer, Events, Faulty, Unfinished, events_before}
+use Rattle.granit_event_machine.specs.EventMachine.{outcome_at_end}
 use Rattle.granit_event_machine.specs.EventMachine.{go_on, go_closed, run_events_from, run_events}
 use Rattle.granit_event_machine.specs.PlaceFrames.{state_at}
 use Rattle.granit_grammar.specs.TreeMachine.{NextPlace, take, TreeAnswer, ReadAs, RefusedAt, Short, at_end, tree_goes}

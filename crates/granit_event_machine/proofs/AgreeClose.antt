@@ -2,7 +2,8 @@
 use Rattle.std.proofs.Common.{◌≡◌, ℕ, Bool, true, false, List, [], ◌∷◌, ◌++◌, refl, sym, ap, ◌∙◌, subst, ◌||◌, Some}
 use Rattle.std.proofs.Common.{None}
 use Rattle.granit_base.specs.Place.{Mark}
-use Rattle.granit_event_machine.specs.EventMachine.{FlowSequenceFrame, EventState, Ending, ending, with_event, past_sequence}
+use Rattle.granit_event_machine.specs.EventMachine.{FlowSequenceFrame, EventState, Ending, ending, with_event}
+use Rattle.granit_event_machine.specs.EventMachine.{past_sequence}
 use Rattle.granit_event_machine.specs.EventMachine.{past_mapping, past_asked, past_curly, past_curly_asked, past_made}
 use Rattle.granit_event_machine.specs.EventMachine.{past_square_asked, finish_frames, frames_room, frames_indent}
 use Rattle.granit_event_machine.specs.EventMachine.{close_frames, ended_by}

@@ -6,7 +6,8 @@ use Rattle.granit_error.specs.OptionsData.{OptionsData}
 use Rattle.granit_event_machine.specs.EventMachine.{EventState, IsEnded, Ending, ending, ended_by, EventStep, GoesTo}
 use Rattle.granit_event_machine.specs.EventMachine.{StopsWith, take_frames, EventAnswer, Events, Faulty, Unfinished}
 use Rattle.granit_event_machine.specs.EventMachine.{events_before, outcome_at_end, go_on, go_closed, run_events_from}
-use Rattle.granit_event_machine.specs.Guarded.{Guard, passed, goes_by, closed_by, guarded, PassesStep, PassesClosed, Passes}
+use Rattle.granit_event_machine.specs.Guarded.{Guard, passed, goes_by, closed_by, guarded, PassesStep, PassesClosed}
+use Rattle.granit_event_machine.specs.Guarded.{Passes}
 use Rattle.granit_event_machine.specs.Guarded.{first_fault, both_guards, scope_guard}
 use Rattle.granit_event_machine.specs.Passing.{runs_none, runs_on, GuardFault}
 use Rattle.granit_language.specs.GrammarFault.{GrammarFault}

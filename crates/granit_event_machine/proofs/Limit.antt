@@ -1,4 +1,5 @@
 -- The limit of block collections: what passes is a stream that keeps it.
+pub use Rattle.granit_grammar.proofs.Tests.{same_left}
 use Rattle.std.proofs.Common.{arith, ◌≡◌, ℕ, suc, Bool, true, false, List, [], ◌∷◌, refl, sym, ap, ◌∙◌, subst, None}
 use Rattle.std.specs.Prelude.{nat_le}
 use Rattle.granit_event_machine.specs.EventMachine.{EventState, Ending, ending, ended_by, EventStep, take_frames}
@@ -20,7 +21,8 @@ use Rattle.granit_language.specs.Within.{stream_within}
 use Rattle.std.proofs.lemmas.Bool.Decides.{nat_tests}
 use Rattle.granit_event_machine.proofs.AgreeClose.{ending_state, close_agrees}
 use Rattle.granit_event_machine.proofs.AgreeStep.{StepsTo, goes_to, stops_at, take_agrees}
-use Rattle.granit_event_machine.proofs.Withins.{close_keeps, StepKeeps, begins, stays, NextKeeps, take_keeps, close_most}
+use Rattle.granit_event_machine.proofs.Withins.{close_keeps, StepKeeps, begins, stays, NextKeeps, take_keeps}
+use Rattle.granit_event_machine.proofs.Withins.{close_most}
 use Rattle.granit_event_machine.proofs.Withins.{count_same}
 
 pub from_zero : (n : ℕ) → nat_le 0 n ≡ true

@@ -1,7 +1,8 @@
 -- The same machine with more faults: a guard looks at the state behind each lexeme that is taken.
 use Rattle.std.specs.Prelude.{◌≡◌, ℕ, suc, Bool, true, false, nat_le, List, [], ◌∷◌, Option, Some, None}
 use Rattle.granit_error.specs.OptionsData.{OptionsData}
-use Rattle.granit_event_machine.specs.EventMachine.{OpenFrame, SequenceFrame, MappingFrame, EventState, IsFresh, InFrames}
+use Rattle.granit_event_machine.specs.EventMachine.{OpenFrame, SequenceFrame, MappingFrame, EventState, IsFresh}
+use Rattle.granit_event_machine.specs.EventMachine.{InFrames}
 use Rattle.granit_event_machine.specs.EventMachine.{Ending, ending, ended_by, EventStep, GoesTo, StopsWith, take_frames}
 use Rattle.granit_event_machine.specs.EventMachine.{EventAnswer, Faulty, events_before, outcome_at_end}
 use Rattle.granit_language.specs.GrammarFault.{GrammarFault, TooManyBlocks}

@@ -1,6 +1,7 @@
 -- What an answer of the guarded machine says.
 use Rattle.std.specs.Prelude.{◌≡◌, List, [], ◌∷◌, ◌++◌, Some, None}
-use Rattle.granit_event_machine.specs.EventMachine.{EventState, ending, ended_by, GoesTo, take_frames, Faulty, events_before}
+use Rattle.granit_event_machine.specs.EventMachine.{EventState, ending, ended_by, GoesTo, take_frames, Faulty}
+use Rattle.granit_event_machine.specs.EventMachine.{events_before}
 use Rattle.granit_event_machine.specs.EventMachine.{run_events_from}
 use Rattle.granit_event_machine.specs.Guarded.{Guard, guarded, Passes}
 use Rattle.granit_language.specs.GrammarFault.{GrammarFault}

@@ -2,7 +2,8 @@
 use Rattle.std.specs.Prelude.{Bool, true, false, List, [], ◌∷◌, Some, None}
 use Rattle.granit_event_machine.specs.EventMachine.{Key, KeyDone, Asking, AskDone, Solo, Done, Value, OpenFrame}
 use Rattle.granit_event_machine.specs.EventMachine.{DocumentFrame, PropertiesFrame, SequenceFrame, FlowSequenceFrame}
-use Rattle.granit_event_machine.specs.EventMachine.{FlowMappingFrame, EventState, IsFresh, HasDirectives, IsRooted, InFrames}
+use Rattle.granit_event_machine.specs.EventMachine.{FlowMappingFrame, EventState, IsFresh, HasDirectives, IsRooted}
+use Rattle.granit_event_machine.specs.EventMachine.{InFrames}
 use Rattle.granit_event_machine.specs.EventMachine.{IsEnded, flow_frame, PairSite, BlockSite, FlowSite, pair_frames}
 use Rattle.granit_language.specs.Node.{NoProperties, Pair, WithColon, AskOnly, FlowItem, Single, Paired}
 use Rattle.granit_language.specs.OpenPlace.{Root, Bare, Explicit, Around, BlockPairs, FlowPairs, Hole, AtRoot, AtEntry}

@@ -4,5 +4,8 @@
 mod events;
 mod flags;
 
-pub use events::{block_collections, chosen_events, comments, flow_collections, order_of_faults, properties_of_nodes, small_limits_told, streams, strict_events};
+pub use events::{
+    block_collections, chosen_events, comments, flow_collections, order_of_faults,
+    properties_of_nodes, small_limits_told, streams, strict_events,
+};
 pub use flags::{bytes_of_lexemes, flags_of_lexemes};

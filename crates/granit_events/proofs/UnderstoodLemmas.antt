@@ -3,8 +3,8 @@ use Rattle.std.proofs.Common.{◌≡◌, ℕ, List, refl, sym, ap, ◌∙◌, su
 use Rattle.std.specs.Prelude.{length, ◌≤◌}
 use Rattle.std.specs.Str.{IsUtf8, chars}
 use Rattle.std.specs.Io.KnownBytes.{Appends}
-use Rattle.granit_answers.proofs.CommentsCaused.{any_fault_caused}
-use Rattle.granit_answers.proofs.OneCause.{answer_reads, cause_answered, reading_answered}
+use Rattle.granit_canonical.proofs.Laws.{any_fault_caused}
+use Rattle.granit_canonical.proofs.Laws.{answer_reads, cause_answered, reading_answered}
 use Rattle.granit_base.specs.Written.{Written}
 use Rattle.granit_declared.proofs.CauseSaid.{cause_declared, declared_cause}
 use Rattle.granit_declared.proofs.ReadingSaid.{answer_declared, declared_answer}
@@ -13,7 +13,7 @@ use Rattle.granit_block_layout.specs.Alike.{BlockAnswered}
 use Rattle.granit_canonical.proofs.Laws.{canonical_is_read}
 use Rattle.granit_comments.proofs.Told.{comments_told}
 use Rattle.granit_comments.proofs.Unasked.{told_unasked}
-use Rattle.granit_json.proofs.Laws.{json_answered}
+use Rattle.granit_load.proofs.LoadLemmas.{json_answered}
 use Rattle.granit_error.specs.OptionsData.{OptionsData}
 use Rattle.granit_lexemes.specs.Line.{event_lines, fault_line}
 use Rattle.granit_lexemes.specs.Outcome.{Fault}

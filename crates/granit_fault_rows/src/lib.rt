@@ -3,4 +3,6 @@
 
 mod kinds;
 
-pub use kinds::{faults_of_brackets_and_directives, faults_of_lexemes, faults_of_places_and_quotes};
+pub use kinds::{
+    faults_of_brackets_and_directives, faults_of_lexemes, faults_of_places_and_quotes,
+};

@@ -10,7 +10,7 @@ use Rattle.granit_lexemes.specs.Pieces.{with_front, pieces}
 use Rattle.granit_lexemes.specs.PlainEvent as events
 use Rattle.granit_lexemes.specs.PlainEvent.{PlainVersion, event_at}
 use Rattle.granit_lexemes.specs.declared.layout.Bracket.TheVariants.{Square, Curly}
-use Rattle.granit_scalars.proofs.Turning.{Carries, pieces_hold}
+pub use Rattle.granit_scalars.proofs.Turning.{Carries, pieces_hold}
 use Rattle.granit_machine.proofs.ClosingLemmas.{close_turn-Shortens, FeedGiven}
 use Rattle.granit_machine.proofs.NoneWaits.{flush_none, end_top_none}
 use Rattle.granit_machine.specs.Closing.{ends_top, end_top, close_turn, depth, close}

@@ -8,11 +8,13 @@ use Rattle.granit_base.specs.Place.{Mark}
 use Rattle.granit_views.specs.Running.{FairNext}
 use Rattle.granit_event_machine.specs.EventMachine.{Key, Asking, AskDone, Done, Value, OpenFrame}
 use Rattle.granit_event_machine.specs.EventMachine.{PropertiesFrame, SequenceFrame, MappingFrame, FlowSequenceFrame}
-use Rattle.granit_event_machine.specs.EventMachine.{FlowMappingFrame, EventState, InFrames, FlowPairFrame, Ending, ending}
+use Rattle.granit_event_machine.specs.EventMachine.{FlowMappingFrame, EventState, InFrames, FlowPairFrame, Ending}
+use Rattle.granit_event_machine.specs.EventMachine.{ending}
 use Rattle.granit_event_machine.specs.EventMachine.{with_event, past_sequence, past_mapping, past_asked, past_curly}
 use Rattle.granit_event_machine.specs.EventMachine.{past_curly_asked, past_made, past_square_asked, frames_room}
 use Rattle.granit_event_machine.specs.EventMachine.{frames_indent, nothing_event, site_opens}
-use Rattle.granit_event_machine.specs.EventMachine.{finish_frames, nothing_frames, frames_empty, nothing_end, close_frames}
+use Rattle.granit_event_machine.specs.EventMachine.{finish_frames, nothing_frames, frames_empty, nothing_end}
+use Rattle.granit_event_machine.specs.EventMachine.{close_frames}
 use Rattle.granit_event_machine.specs.EventMachine.{ended_by, EventStep, GoesTo, put_frames, part_frames, BlockSite}
 use Rattle.granit_event_machine.specs.EventMachine.{FlowSite, entry_frames, begin_pair_frames}
 use Rattle.granit_language.specs.Choice.{choose}

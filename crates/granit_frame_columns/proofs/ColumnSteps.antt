@@ -8,7 +8,8 @@ use Rattle.granit_views.specs.Running.{FairNext}
 use Rattle.granit_views.specs.Stepping.{taken}
 use Rattle.granit_event_machine.specs.EventMachine.{Key, Asking, Value, OpenFrame, DocumentFrame}
 use Rattle.granit_event_machine.specs.EventMachine.{SequenceFrame, MappingFrame, FlowSequenceFrame}
-use Rattle.granit_event_machine.specs.EventMachine.{FlowMappingFrame, EventState, InFrames, FlowPairFrame, Ending, ending}
+use Rattle.granit_event_machine.specs.EventMachine.{FlowMappingFrame, EventState, InFrames, FlowPairFrame, Ending}
+use Rattle.granit_event_machine.specs.EventMachine.{ending}
 use Rattle.granit_event_machine.specs.EventMachine.{frames_room}
 use Rattle.granit_event_machine.specs.EventMachine.{frames_indent, stop_kind, Opened}
 use Rattle.granit_event_machine.specs.EventMachine.{ended_by, EventStep, GoesTo, if_gives, part_frames, BlockSite}
@@ -42,8 +43,10 @@ use Rattle.granit_order.proofs.Enclosing.{suits_square_ask_done, suits_square_do
 use Rattle.granit_order.proofs.OrderSteps.{EndSuits, closed_suits, IsSome, after_next, if_next, choose_next}
 use Rattle.granit_order.proofs.OrderSteps.{no_opening}
 use Rattle.granit_frame_columns.proofs.ColumnCloses.{open_columns, state_columns, Sits, StateSits, Holds, sits_fall}
-use Rattle.granit_frame_columns.proofs.ColumnCloses.{at_most_behind, push_same, Beyond, beyond_all, beyond_top, EndHolds}
-use Rattle.granit_frame_columns.proofs.ColumnCloses.{closed_columns, closed_hold, begun_if, stepped, To, to_as, put_holds}
+use Rattle.granit_frame_columns.proofs.ColumnCloses.{at_most_behind, push_same, Beyond, beyond_all, beyond_top}
+use Rattle.granit_frame_columns.proofs.ColumnCloses.{EndHolds}
+use Rattle.granit_frame_columns.proofs.ColumnCloses.{closed_columns, closed_hold, begun_if, stepped, To, to_as}
+use Rattle.granit_frame_columns.proofs.ColumnCloses.{put_holds}
 use Rattle.granit_frame_columns.proofs.ColumnCloses.{part_holds, entry_holds, square_holds, curly_holds, pair_holds}
 
 module _ (i : At) where

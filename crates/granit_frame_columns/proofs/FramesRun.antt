@@ -14,8 +14,10 @@ use Rattle.granit_agreement.proofs.WholeRuns.{fault_passed}
 use Rattle.granit_frame_steps.proofs.WholeSteps.{step_next}
 use Rattle.granit_event_machine.specs.EventMachine.{OpenFrame, Key, KeyDone, Asking, AskDone, Opened, Solo, Done, Value}
 use Rattle.granit_event_machine.specs.EventMachine.{DocumentFrame, PropertiesFrame, SequenceFrame, MappingFrame}
-use Rattle.granit_event_machine.specs.EventMachine.{FlowSequenceFrame, FlowMappingFrame, FlowPairFrame, EventState, IsFresh}
-use Rattle.granit_event_machine.specs.EventMachine.{HasDirectives, IsRooted, InFrames, IsEnded, EventStep, GoesTo, StopsWith}
+use Rattle.granit_event_machine.specs.EventMachine.{FlowSequenceFrame, FlowMappingFrame, FlowPairFrame, EventState}
+use Rattle.granit_event_machine.specs.EventMachine.{IsFresh}
+use Rattle.granit_event_machine.specs.EventMachine.{HasDirectives, IsRooted, InFrames, IsEnded, EventStep, GoesTo}
+use Rattle.granit_event_machine.specs.EventMachine.{StopsWith}
 use Rattle.granit_event_machine.specs.EventMachine.{ended_by}
 use Rattle.granit_event_machine.specs.Guarded.{state_count, is_loose}
 use Rattle.granit_language.specs.GrammarFault.{TooManyBlocks}
@@ -42,7 +44,8 @@ use Rattle.granit_places.proofs.ColumnsKept.{chosen, pop, unless_top, push, pop_
 use Rattle.granit_order.specs.FrameColumns.{block_columns, due_along}
 use Rattle.granit_order.specs.Order.{open_behind, due_if, due_behind, may_follow, InOrder, EndsThere, OrderedFrom}
 use Rattle.granit_order.proofs.ColumnLists.{due_pushed, columns_behind, KeysTo}
-use Rattle.granit_frame_columns.proofs.ColumnCloses.{open_columns, state_columns, StateSits, Holds, sits_fall, closed_columns}
+use Rattle.granit_frame_columns.proofs.ColumnCloses.{open_columns, state_columns, StateSits, Holds, sits_fall}
+use Rattle.granit_frame_columns.proofs.ColumnCloses.{closed_columns}
 use Rattle.granit_frame_columns.proofs.ColumnCloses.{begun_if, stepped}
 use Rattle.granit_frame_columns.proofs.ColumnSteps.{step_holds}
 use Rattle.granit_order.proofs.Enclosing.{Suits, suits_fresh, suits_directed, suits_rooted, suits_blocks, suits_item}

@@ -9,7 +9,8 @@ use Rattle.granit_views.specs.Running.{NextView}
 use Rattle.granit_views.specs.Stepping.{taken, LimitView, at_kind, knowing, known_behind, moved_on}
 use Rattle.granit_views.specs.View.{Beside, state_of, give_all}
 use Rattle.granit_language.specs.Seen.{terminal_kind}
-use Rattle.granit_event_machine.specs.EventMachine.{OpenFrame, IsFresh, HasDirectives, IsRooted, InFrames, IsEnded, Ending}
+use Rattle.granit_event_machine.specs.EventMachine.{OpenFrame, IsFresh, HasDirectives, IsRooted, InFrames, IsEnded}
+use Rattle.granit_event_machine.specs.EventMachine.{Ending}
 use Rattle.granit_event_machine.specs.EventMachine.{ending, ended_by, EventStep, GoesTo, StopsWith, take_frames}
 use Rattle.granit_event_machine.specs.Guarded.{blocks_open}
 use Rattle.granit_language.specs.Node.{TreeProperties}

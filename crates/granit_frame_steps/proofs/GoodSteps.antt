@@ -4,14 +4,20 @@ use Rattle.granit_views.specs.Good.{curly_key, curly_asked, curly_value, made_ke
 use Rattle.granit_views.specs.Good.{pair_value, Good, hole, behind_properties, past_entry, key_done, ask_done}
 use Rattle.granit_views.specs.Good.{pair_done, item_done, curly_key_done, curly_ask_done, curly_solo, curly_done}
 use Rattle.granit_views.specs.Good.{made_key_done, made_done, square_ask_done, square_done, IsPositive}
-use Rattle.granit_event_machine.specs.EventMachine.{Key, AskDone, Done, Value, OpenFrame, PropertiesFrame, SequenceFrame}
+use Rattle.granit_event_machine.specs.EventMachine.{Key, AskDone, Done, Value, OpenFrame, PropertiesFrame}
+use Rattle.granit_event_machine.specs.EventMachine.{SequenceFrame}
 use Rattle.granit_event_machine.specs.EventMachine.{MappingFrame, FlowSequenceFrame, FlowMappingFrame, FlowPairFrame}
-use Rattle.granit_event_machine.specs.EventMachine.{past_sequence, past_mapping, past_asked, past_curly, past_curly_asked}
-use Rattle.granit_event_machine.specs.EventMachine.{past_made, past_square_asked, frames_empty, nothing_event, nothing_end}
+use Rattle.granit_event_machine.specs.EventMachine.{past_sequence, past_mapping, past_asked, past_curly}
+use Rattle.granit_event_machine.specs.EventMachine.{past_curly_asked}
+use Rattle.granit_event_machine.specs.EventMachine.{past_made, past_square_asked, frames_empty, nothing_event}
+use Rattle.granit_event_machine.specs.EventMachine.{nothing_end}
 use Rattle.granit_event_machine.specs.EventMachine.{frames_room, frames_indent, EventState, IsRooted, InFrames, Ending}
-use Rattle.granit_event_machine.specs.EventMachine.{ending, with_event, finish_frames, ended_by, EventStep, GoesTo, StopsWith}
-use Rattle.granit_event_machine.specs.EventMachine.{after_events, if_gives, put_frames, part_frames, BlockSite, FlowSite}
-use Rattle.granit_event_machine.specs.EventMachine.{entry_frames, begin_pair_frames, take_frames, want_frames, stop_kind}
+use Rattle.granit_event_machine.specs.EventMachine.{ending, with_event, finish_frames, ended_by, EventStep, GoesTo}
+use Rattle.granit_event_machine.specs.EventMachine.{StopsWith}
+use Rattle.granit_event_machine.specs.EventMachine.{after_events, if_gives, put_frames, part_frames, BlockSite}
+use Rattle.granit_event_machine.specs.EventMachine.{FlowSite}
+use Rattle.granit_event_machine.specs.EventMachine.{entry_frames, begin_pair_frames, take_frames, want_frames}
+use Rattle.granit_event_machine.specs.EventMachine.{stop_kind}
 use Rattle.granit_language.specs.Choice.{choose}
 use Rattle.granit_language.specs.GrammarFault.{GrammarFault, ExpectedBlockSequenceEntry, ExpectedBlockMappingKey}
 use Rattle.granit_language.specs.Node.{TreeProperties, NoProperties, One, Two}

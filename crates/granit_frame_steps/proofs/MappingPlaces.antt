@@ -5,7 +5,8 @@ use Rattle.granit_views.specs.View.{give_all, stage_of}
 use Rattle.granit_language.specs.Seen.{terminal_kind}
 use Rattle.granit_event_machine.specs.EventMachine.{PairAt, Key, Asking, AskDone, Done, Value, OpenFrame, MappingFrame}
 use Rattle.granit_event_machine.specs.EventMachine.{EventState, InFrames, Ending, ending, with_event, finish_frames}
-use Rattle.granit_event_machine.specs.EventMachine.{nothing_frames, ended_by, GoesTo, after_events, if_gives, take_frames}
+use Rattle.granit_event_machine.specs.EventMachine.{nothing_frames, ended_by, GoesTo, after_events, if_gives}
+use Rattle.granit_event_machine.specs.EventMachine.{take_frames}
 use Rattle.granit_event_machine.specs.EventMachine.{want_frames, part_frames, entry_frames, BlockSite}
 use Rattle.granit_event_machine.specs.Guarded.{blocks_open, first_fault}
 use Rattle.granit_language.specs.Choice.{choose}

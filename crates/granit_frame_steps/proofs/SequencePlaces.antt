@@ -3,9 +3,11 @@ use Rattle.granit_views.specs.Fair.{frame_ends_at}
 use Rattle.granit_views.specs.Good.{Holes, at_root, at_entry, IsPositive}
 use Rattle.granit_views.specs.Stepping.{taken, LimitView, at_kind}
 use Rattle.granit_language.specs.Seen.{terminal_kind}
-use Rattle.granit_grammar.proofs.Tests.{same_left}
-use Rattle.granit_event_machine.specs.EventMachine.{OpenFrame, DocumentFrame, SequenceFrame, EventState, InFrames, Ending}
-use Rattle.granit_event_machine.specs.EventMachine.{ending, with_event, finish_frames, frames_empty, nothing_frames, GoesTo}
+use Rattle.granit_event_machine.proofs.Limit.{same_left}
+use Rattle.granit_event_machine.specs.EventMachine.{OpenFrame, DocumentFrame, SequenceFrame, EventState, InFrames}
+use Rattle.granit_event_machine.specs.EventMachine.{Ending}
+use Rattle.granit_event_machine.specs.EventMachine.{ending, with_event, finish_frames, frames_empty, nothing_frames}
+use Rattle.granit_event_machine.specs.EventMachine.{GoesTo}
 use Rattle.granit_event_machine.specs.EventMachine.{StopsWith, after_events, if_gives, take_frames, want_frames}
 use Rattle.granit_event_machine.specs.Guarded.{blocks_open, first_fault}
 use Rattle.granit_language.specs.Choice.{choose}

@@ -5,7 +5,8 @@ use Rattle.granit_views.specs.Stepping.{taken, LimitView, at_kind, knowing, stay
 use Rattle.granit_views.specs.View.{Beside, state_of, give_all}
 use Rattle.granit_language.specs.Seen.{terminal_kind, at_of, indent_of}
 use Rattle.granit_event_machine.proofs.Limit.{from_zero}
-use Rattle.granit_event_machine.specs.EventMachine.{OpenFrame, DocumentFrame, EventState, IsFresh, HasDirectives, IsRooted}
+use Rattle.granit_event_machine.specs.EventMachine.{OpenFrame, DocumentFrame, EventState, IsFresh, HasDirectives}
+use Rattle.granit_event_machine.specs.EventMachine.{IsRooted}
 use Rattle.granit_event_machine.specs.EventMachine.{InFrames, ended_by, EventStep, GoesTo, StopsWith, after_events}
 use Rattle.granit_event_machine.specs.EventMachine.{take_frames, want_frames}
 use Rattle.granit_event_machine.specs.Guarded.{first_fault, fault_unless}

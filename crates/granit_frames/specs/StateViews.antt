@@ -1,4 +1,5 @@
 -- What the code's parser keeps, as the machine's parser has it.
+pub use Rattle.granit_node_properties.specs.PropertyViews.{bears}
 use Rattle.std.specs.Prelude.{ℕ, Bool, true, false, List, [], ◌∷◌, map, Option, Some, None}
 use Rattle.std.specs.Option.{option_map}
 use Rattle.std.specs.VecDeque.{deque_items}

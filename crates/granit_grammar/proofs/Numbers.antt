@@ -301,7 +301,7 @@ mutual
       Named (LeftNamed left) ks rest
   left_named (SimpleKey y t n) h m k ks rest f g =
       let a = key_named t h y (terminal (Colon (Some n)) m) k ks (terminal (Colon (Some n)) m ∷ rest)
-              (and_parts _ _ f.0).0
+      (and_parts _ _ f.0).0
       f.1 g in
       record { named = (a.0, a.1.0); top = None; fit = a.1.1 }
   left_named (Asked q v) h m k ks rest f g =

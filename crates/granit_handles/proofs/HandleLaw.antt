@@ -18,8 +18,8 @@ use Rattle.granit_lexemes.specs.Here.{Here, text_len, next_char, step, past}
 use Rattle.granit_lexemes.specs.Outcome.{Fault, ◌>>=◌}
 use Rattle.granit_lexemes.specs.PlainExtent.{over}
 use Rattle.granit_lexemes.specs.Basics.{fails_at}
-use Rattle.granit_scalars.proofs.QuotedEscapes.{over_text}
-use Rattle.granit_scalars.proofs.Stepping.{seen, over-append}
+use Rattle.granit_names.proofs.Runs.{over_text}
+use Rattle.granit_names.proofs.Kept.{seen, over-append}
 use Rattle.granit_lexemes.specs.Basics.{count_up_to, text_up_to}
 use Rattle.granit_lexemes.specs.Directive.{handle_by, handle_at, prefix_ends, prefix_at, behind_handle_at}
 use Rattle.granit_lexemes.specs.Directive.{tag_directive}

@@ -17,8 +17,8 @@ use Rattle.granit_lexemes.specs.Here.{Here, next_char, step, past}
 use Rattle.granit_lexemes.specs.Outcome.{Fault, ◌>>=◌}
 use Rattle.granit_lexemes.specs.PlainExtent.{over}
 use Rattle.granit_lexemes.specs.Basics.{fails_at}
-use Rattle.granit_scalars.proofs.QuotedEscapes.{over_text}
-use Rattle.granit_scalars.proofs.Stepping.{over-append}
+use Rattle.granit_names.proofs.Runs.{over_text}
+use Rattle.granit_names.proofs.Kept.{over-append}
 use Rattle.granit_lexemes.specs.Basics.{count_up_to, text_up_to}
 use Rattle.granit_lexemes.specs.Directive.{blanks_within, handle_by, handle_at, prefix_ends, prefix_at}
 use Rattle.granit_lexemes.specs.Directive.{behind_handle_at, tag_directive}
@@ -30,11 +30,14 @@ use Rattle.granit_names.proofs.Runs.{count_over, text_over, past_run}
 use Rattle.granit_names.proofs.Spelling.{uri_class, spelled_each}
 use Rattle.granit_names.proofs.Escaped.{free}
 use Rattle.granit_names.proofs.Decoded.{decoded_is}
-use Rattle.granit_names.proofs.Kept.{each-append, held, Kept, same, passed, kept, kept_decoded}
-use Rattle.granit_names.proofs.TagLaw.{no_alpha_nul, no_alpha_bang, alpha_tag, blank_low}
+use Rattle.granit_names.proofs.Kept.{held, Kept, same, passed, kept, kept_decoded}
+pub use Rattle.granit_names.proofs.Kept.{each-append}
+use Rattle.granit_names.proofs.TagLaw.{no_alpha_bang, blank_low}
+pub use Rattle.granit_names.proofs.TagLaw.{alpha_tag, no_alpha_nul}
 use Rattle.granit_handles.proofs.VersionLaw.{no_blank_nul}
 use Rattle.granit_handles.proofs.ReservedLaw.{bytes-append}
-use Rattle.granit_handles.proofs.HandleLaw.{is_uri_or_blank, tag_uri, blank_part, uri_part, each_as, part_bytes, bang_uri}
+use Rattle.granit_handles.proofs.HandleLaw.{is_uri_or_blank, tag_uri, blank_part, uri_part, each_as, part_bytes}
+use Rattle.granit_handles.proofs.HandleLaw.{bang_uri}
 
 uri_above : (c : ℕ) → is_uri_char c ≡ true → 0x21 ≤ c
 unfolding is_uri_char is_uri_sign is_word_char is_digit

@@ -24,7 +24,7 @@ use Rattle.granit_names.proofs.Kept.{held, Kept, same, passed, kept, kept_decode
 use Rattle.granit_names.proofs.LimitedEscapes.{Limit, room, spent_within, spent_over, char_held, char_within, char_over}
 use Rattle.granit_names.proofs.LimitedEscapes.{wrong_within, wrong_over}
 use Rattle.granit_names.proofs.Spelling.{uri_class, part, AreHigh, rows}
-use Rattle.granit_scalars.proofs.QuotedEscapes.{over_text}
+use Rattle.granit_names.proofs.Runs.{over_text}
 
 -- ---- the next character, and what is spelled behind it
 

@@ -28,14 +28,15 @@ use Rattle.granit_lexemes.specs.DirectiveCause.{escapes_read, prefix_read}
 use Rattle.granit_handles.proofs.HandleLaw.{tag_uri, bang_uri}
 use Rattle.granit_handles.proofs.HandleOnce.{uri_no_blank, blanks_ok, bang_at, handle_is, decoded_kept, handle_no_blank}
 use Rattle.granit_handles.proofs.HandleOnce.{behind_bang, bang_blank}
-use Rattle.granit_names.proofs.LimitedEscapes.{Limit, room, spent_within, spent_over}
+use Rattle.granit_names.proofs.LimitedEscapes.{spent_within, spent_over}
+pub use Rattle.granit_names.proofs.LimitedEscapes.{Limit, room}
 use Rattle.granit_handles.proofs.LimitedPrefix.{decode, decode_fails, decode_passes, decode_long}
 use Rattle.granit_names.proofs.Runs.{count_over, text_over, past_run}
 use Rattle.granit_names.proofs.Spelling.{uri_class}
 use Rattle.granit_names.proofs.TagLaw.{no_alpha_nul, no_alpha_bang}
 use Rattle.granit_handles.proofs.VersionLaw.{no_blank_nul}
-use Rattle.granit_scalars.proofs.QuotedEscapes.{over_text}
-use Rattle.granit_scalars.proofs.Stepping.{over-append}
+use Rattle.granit_names.proofs.Runs.{over_text}
+use Rattle.granit_names.proofs.Kept.{over-append}
 
 module _ (start : Mark) (limit : ℕ) where
   abbrev with_place : Here → Option Budget → Result (Option Budget × Here) Fault

@@ -18,8 +18,8 @@ use Rattle.granit_lexemes.specs.Outcome.{Fault, ◌>>=◌}
 use Rattle.granit_lexemes.specs.PlainExtent.{over}
 use Rattle.granit_lexemes.specs.Basics.{fails_at}
 use Rattle.granit_lexemes.specs.Pieces.{with_front, then_more, turns, pieces}
-use Rattle.granit_scalars.proofs.QuotedEscapes.{over_text}
-use Rattle.granit_scalars.proofs.Stepping.{over-append}
+use Rattle.granit_names.proofs.Runs.{over_text}
+use Rattle.granit_names.proofs.Kept.{over-append}
 use Rattle.granit_lexemes.specs.Basics.{text_up_to}
 use Rattle.granit_lexemes.specs.Directive.{word_up_to, ParameterState, parameter_behind, parameter_turn, parameters_len}
 use Rattle.granit_lexemes.specs.Directive.{reserved_directive}

@@ -1,4 +1,8 @@
 -- What is counted of `%TAG` is no longer than what stands there.
+pub use Rattle.granit_names.proofs.TagOnce.{over-append, tag_is}
+pub use Rattle.granit_names.proofs.NameLaw.{name_is, name_refused, name_stands, seen}
+pub use Rattle.granit_names.proofs.Spelling.{escapes_spell, spelled_each, uri_class}
+pub use Rattle.granit_names.proofs.TagLaw.{tag_refused, tag_stands}
 use Rattle.std.proofs.Common.{◌≡◌, ℕ, suc, ◌+◌, ◌≤◌, ◌==◌, Bool, true, false, List, [], ◌∷◌, ◌++◌, length}
 use Rattle.std.proofs.Common.{refl, sym, ap, ◌∙◌, arith, append_assoc, length-append}
 use Rattle.granit_base.specs.Classes.{is_blank, is_alpha, is_uri_char}
@@ -7,9 +11,8 @@ use Rattle.granit_lexemes.specs.DirectiveExtent.{PrefixBegins, up_to_blanks, up_
 use Rattle.granit_lexemes.specs.DirectiveExtent.{up_to_prefix, SpellsHandle, named, alone, PrefixStands}
 use Rattle.granit_lexemes.specs.Gap.{Each}
 use Rattle.granit_handles.proofs.HandleOnce.{handle_no_blank, prefix_no_blank, bang_blank}
-use Rattle.granit_names.proofs.Spelling.{uri_class, spelled_each}
 use Rattle.granit_names.proofs.TagLaw.{no_alpha_bang}
-use Rattle.granit_scalars.proofs.Comments.{same_run}
+use Rattle.granit_names.proofs.NameLaw.{same_run}
 
 -- a run of a class is no longer than the whole run
 run_short : (test : ℕ → Bool) (front other source rest : List ℕ) → front ++ other ≡ source ++ rest → Each test front

@@ -12,14 +12,15 @@ use Rattle.granit_lexemes.specs.Outcome.{Fault, ◌>>=◌}
 use Rattle.granit_lexemes.specs.PlainExtent.{over}
 use Rattle.granit_lexemes.specs.Basics.{fails_at}
 use Rattle.granit_lexemes.proofs.HereLemmas.{not_empty, stepped_text}
-use Rattle.granit_scalars.proofs.QuotedEscapes.{over_text}
-use Rattle.granit_scalars.proofs.Stepping.{seen, over-append}
+use Rattle.granit_names.proofs.Runs.{over_text}
+use Rattle.granit_names.proofs.Kept.{seen, over-append}
 use Rattle.granit_lexemes.specs.Directive.{digits_value, number_up_to, version_number, minor_number, version_directive}
 use Rattle.granit_lexemes.specs.Lexeme.{DirectiveKind, Version}
 use Rattle.granit_lexemes.specs.DirectiveExtent.{All, NumberStands, VersionStands, WrongNumber, missing, too_long}
 use Rattle.granit_lexemes.specs.DirectiveExtent.{WrongVersion, first_wrong, no_point, second_wrong}
-use Rattle.granit_names.proofs.Runs.{run_of, past_run, count_over, text_over}
-use Rattle.granit_names.proofs.TagLaw.{some_is}
+use Rattle.granit_names.proofs.Runs.{run_of, past_run}
+pub use Rattle.granit_names.proofs.Runs.{count_over, text_over}
+pub use Rattle.granit_names.proofs.TagLaw.{some_is}
 
 no_digit_nul : is_digit 0 ≡ false
 unfolding is_digit

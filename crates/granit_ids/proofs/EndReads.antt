@@ -11,8 +11,8 @@ use Rattle.granit_machine.specs.Laid.{Laid}
 use Rattle.granit_machine.specs.LexemeSort.{TextEnd}
 use Rattle.granit_machine.specs.Reader.{is_end, read}
 use Rattle.granit_machine.specs.ReaderState.{ReaderState}
-use Rattle.granit_reading.proofs.Answering.{Answers}
-use Rattle.granit_reading.proofs.ReadingLaw.{read-is, ReadsBy}
+use Rattle.granit_places.proofs.Telling.{Answers}
+use Rattle.granit_places.proofs.Telling.{read-is, ReadsBy}
 use Rattle.granit_places.proofs.Telling.{end_sort}
 use Rattle.granit_places.proofs.Telling.{telling}
 

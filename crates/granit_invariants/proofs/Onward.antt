@@ -37,10 +37,11 @@ use Rattle.granit_machine.specs.LexemeSort.{AliasSign, AnchorSign, TagSign, Bloc
 use Rattle.granit_machine.specs.LexemeSort.{PlainSign, LexemeSort, TextEnd, StartMark, EndMark, Unprintable}
 use Rattle.granit_machine.specs.LexemeSort.{DirectiveSign, Placed}
 use Rattle.granit_places.proofs.Counting.{place_index}
-use Rattle.granit_reading.proofs.ReadAnswers.{by_answers, read_answers}
-use Rattle.granit_reading.proofs.ReadingLaw.{stops_there}
+use Rattle.granit_places.proofs.Telling.{by_answers}
+use Rattle.granit_places.proofs.Counting.{read_answers}
+use Rattle.granit_places.proofs.Telling.{stops_there}
 use Rattle.granit_places.proofs.Signs.{gap_text}
-use Rattle.granit_reading.proofs.SortAnswers.{sort_answers}
+use Rattle.granit_places.proofs.Telling.{sort_answers}
 use Rattle.granit_machine.specs.Reader.{is_end, lexeme_by, lexeme}
 use Rattle.granit_machine.specs.ReaderState.{ReaderState}
 

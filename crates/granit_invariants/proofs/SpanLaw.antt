@@ -20,7 +20,7 @@ use Rattle.granit_machine.specs.Reader.{LexState}
 use Rattle.granit_machine.specs.ReaderState.{ReaderState, reader_start}
 use Rattle.granit_places.proofs.Counting.{start_at}
 use Rattle.granit_places.proofs.PlacesLaw.{CountedTo, AllTo, all_parts, pass_here, pass_then, reached_passes}
-use Rattle.granit_reading.proofs.ReadingLaw.{lexed}
+use Rattle.granit_places.proofs.Telling.{lexed}
 use Rattle.granit_invariants.proofs.ItemSpans.{LexemeRuns, TailRuns, ItemsRun, reached_run}
 use Rattle.granit_invariants.proofs.Onward.{reached_whole}
 use Rattle.granit_invariants.proofs.SpanSteps.{TailIn, LexemeIn, empty_in}

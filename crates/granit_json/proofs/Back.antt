@@ -12,8 +12,10 @@ use Rattle.granit_json_scalars.specs.Json.{AfterElements, AfterMembers, Array, B
 use Rattle.granit_json_scalars.specs.Json.{NoMember, Object, Text, json_depth}
 use Rattle.granit_json_scalars.specs.JsonEvents.{json_events}
 use Rattle.granit_json.specs.JsonKinds.{element_kinds, json_kinds, member_kinds, unlent_kinds, value_kinds}
-use Rattle.granit_json_scalars.specs.JsonText.{ElementNamesFit, ElementsText, JsonText, MemberNamesFit, MemberText, MembersText}
-use Rattle.granit_json_scalars.specs.JsonText.{NameFits, NamesFit, PartText, ValueNamesFit, ValueText, bare, elements, member}
+use Rattle.granit_json_scalars.specs.JsonText.{ElementNamesFit, ElementsText, JsonText, MemberNamesFit, MemberText}
+use Rattle.granit_json_scalars.specs.JsonText.{MembersText}
+use Rattle.granit_json_scalars.specs.JsonText.{NameFits, NamesFit, PartText, ValueNamesFit, ValueText, bare, elements}
+use Rattle.granit_json_scalars.specs.JsonText.{member}
 use Rattle.granit_json_scalars.specs.JsonText.{members, next_element, next_member, no_elements, no_members, one_element}
 use Rattle.granit_json_scalars.specs.JsonText.{one_member, part, text}
 use Rattle.granit_lexemes.specs.Basics.{owned}
@@ -21,7 +23,7 @@ use Rattle.granit_lexemes.specs.Gap.{Each}
 use Rattle.granit_lexemes.specs.PlainEvent.{DocumentEnd, EventKind, MappingEnd, MappingStart, Scalar}
 use Rattle.granit_lexemes.specs.PlainEvent.{SequenceEnd, SequenceStart, StreamEnd}
 use Rattle.granit_machine.specs.Machine.{run}
-use Rattle.granit_answers.proofs.Answered.{one_answer}
+use Rattle.granit_canonical.proofs.Laws.{one_answer}
 
 -- ---- back from kinds
 

@@ -8,8 +8,10 @@ use Rattle.granit_json_scalars.proofs.Bares.{Sound, is_bare_start, sound}
 use Rattle.granit_json_scalars.proofs.Gaps.{whites_gap}
 use Rattle.granit_json.proofs.Nodes.{Front}
 use Rattle.granit_json_scalars.specs.Json.{Elements, Json, Members}
-use Rattle.granit_json_scalars.specs.JsonText.{ElementsText, MemberText, MembersText, PartText, ValueText, bare, elements}
-use Rattle.granit_json_scalars.specs.JsonText.{member, members, next_element, next_member, no_elements, no_members, one_element}
+use Rattle.granit_json_scalars.specs.JsonText.{ElementsText, MemberText, MembersText, PartText, ValueText, bare}
+use Rattle.granit_json_scalars.specs.JsonText.{elements}
+use Rattle.granit_json_scalars.specs.JsonText.{member, members, next_element, next_member, no_elements, no_members}
+use Rattle.granit_json_scalars.specs.JsonText.{one_element}
 use Rattle.granit_json_scalars.specs.JsonText.{one_member, part, text}
 use Rattle.granit_lexemes.specs.declared.layout.Bracket.TheVariants.{Curly, Square}
 

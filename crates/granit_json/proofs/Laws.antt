@@ -4,7 +4,7 @@ use Rattle.std.proofs.Common.{true}
 use Rattle.std.proofs.Common.{ℕ, ◌++◌, ◌∙◌, ◌∷◌, ◌≡◌, ◌≤◌}
 use Rattle.std.proofs.lemmas.List.{append-nil}
 use Rattle.granit_lexemes.proofs.PieceLemmas.{fault_none}
-use Rattle.granit_answers.proofs.OneCause.{answer_reads, reading_answered, unasked_silent}
+use Rattle.granit_canonical.proofs.Laws.{answer_reads, reading_answered, unasked_silent}
 use Rattle.granit_base.specs.Classes.{is_printable}
 use Rattle.granit_canonical.proofs.Laws.{BareItem, BareItems, no_row_too_long, all_others, lex_same}
 use Rattle.granit_error.specs.OptionsData.{OptionsData}
@@ -27,7 +27,7 @@ use Rattle.granit_machine.specs.Lexing.{FlaggedItem, flagged, lex}
 use Rattle.granit_machine.specs.Machine.{run}
 use Rattle.granit_machine.specs.Parser.{next_line}
 use Rattle.granit_machine.specs.Reader.{LexState}
-use Rattle.granit_reading.proofs.WholeLaw.{all_read_whole}
+use Rattle.granit_quiet.proofs.TellStream.{all_read_whole}
 
 -- ---- no comment is one too many, since there is none
 

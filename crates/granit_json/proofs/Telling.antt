@@ -4,11 +4,14 @@ use Rattle.std.specs.Prelude.{None}
 use Rattle.granit_base.specs.declared.style.ScalarStyle.TheVariants.{DoubleQuoted}
 use Rattle.granit_canonical_steps.specs.Canonical.{spot, stretch}
 use Rattle.granit_json_scalars.specs.Json.{Elements, Json, Members}
-use Rattle.granit_json_scalars.specs.JsonEvents.{array_start, element_events, json_events, member_events, members_events}
+use Rattle.granit_json_scalars.specs.JsonEvents.{array_start, element_events, json_events, member_events}
+use Rattle.granit_json_scalars.specs.JsonEvents.{members_events}
 use Rattle.granit_json_scalars.specs.JsonEvents.{object_start, part_events, scalar_of, value_events}
 use Rattle.granit_json.specs.JsonKinds.{element_kinds, json_kinds, member_kinds, unlent_kinds, value_kinds}
-use Rattle.granit_json_scalars.specs.JsonText.{ElementsText, JsonText, MemberText, MembersText, PartText, ValueText, bare}
-use Rattle.granit_json_scalars.specs.JsonText.{elements, member, members, next_element, next_member, no_elements, no_members}
+use Rattle.granit_json_scalars.specs.JsonText.{ElementsText, JsonText, MemberText, MembersText, PartText, ValueText}
+use Rattle.granit_json_scalars.specs.JsonText.{bare}
+use Rattle.granit_json_scalars.specs.JsonText.{elements, member, members, next_element, next_member, no_elements}
+use Rattle.granit_json_scalars.specs.JsonText.{no_members}
 use Rattle.granit_json_scalars.specs.JsonText.{one_element, one_member, part, text}
 use Rattle.granit_lexemes.specs.Basics.{owned}
 use Rattle.granit_lexemes.specs.PlainEvent.{DocumentEnd, DocumentStart, EventKind, MappingEnd, PlainEvent, SequenceEnd}

@@ -26,11 +26,15 @@ use Rattle.granit_json_scalars.proofs.Passing.{Passage, passage_name, passage_on
 use Rattle.granit_json_scalars.proofs.Plains.{takes_bare}
 use Rattle.granit_json_scalars.proofs.Quoted.{takes_string}
 use Rattle.granit_json_scalars.specs.Json.{Elements, Json, Members, elements_depth, json_depth, members_depth}
-use Rattle.granit_json_scalars.specs.JsonEvents.{element_events, first_source, member_events, members_events, part_events}
+use Rattle.granit_json_scalars.specs.JsonEvents.{element_events, first_source, member_events, members_events}
+use Rattle.granit_json_scalars.specs.JsonEvents.{part_events}
 use Rattle.granit_json_scalars.specs.JsonEvents.{scalar_of, string_text, value_events}
-use Rattle.granit_json_scalars.specs.JsonText.{ElementNamesFit, ElementsText, MemberNamesFit, MemberText, MembersText, NameFits}
-use Rattle.granit_json_scalars.specs.JsonText.{NamesFit, PartText, ValueNamesFit, ValueText, bare, elements, member, members}
-use Rattle.granit_json_scalars.specs.JsonText.{next_element, next_member, no_elements, no_members, one_element, one_member}
+use Rattle.granit_json_scalars.specs.JsonText.{ElementNamesFit, ElementsText, MemberNamesFit, MemberText, MembersText}
+use Rattle.granit_json_scalars.specs.JsonText.{NameFits}
+use Rattle.granit_json_scalars.specs.JsonText.{NamesFit, PartText, ValueNamesFit, ValueText, bare, elements, member}
+use Rattle.granit_json_scalars.specs.JsonText.{members}
+use Rattle.granit_json_scalars.specs.JsonText.{next_element, next_member, no_elements, no_members, one_element}
+use Rattle.granit_json_scalars.specs.JsonText.{one_member}
 use Rattle.granit_json_scalars.specs.JsonText.{part, text}
 use Rattle.granit_language.specs.Node.{AfterItem, FlowLead, Just, LastItem, NoItem, NoProperties, Node, Pair, Paired}
 use Rattle.granit_language.specs.Node.{ScalarNode, SimpleKey, Single, WithColon}

@@ -15,7 +15,8 @@ use Rattle.granit_canonical_steps.specs.Canonical.{spot}
 use Rattle.granit_error.specs.OptionsData.{OptionsData}
 use Rattle.granit_json_scalars.proofs.Gaps.{at_end, whites_gap}
 use Rattle.granit_json.proofs.Nodes.{NodeRead}
-use Rattle.granit_json_scalars.proofs.Passing.{Flags, items_of, lexed_flags, lexed_whole, seen, seen_append, terminals_are}
+use Rattle.granit_json_scalars.proofs.Passing.{Flags, items_of, lexed_flags, lexed_whole, seen, seen_append}
+use Rattle.granit_json_scalars.proofs.Passing.{terminals_are}
 use Rattle.granit_json.proofs.Values.{value_read}
 use Rattle.granit_json_scalars.specs.Json.{Json, json_depth}
 use Rattle.granit_json_scalars.specs.JsonEvents.{first_source, json_events, value_events}

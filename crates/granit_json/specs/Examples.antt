@@ -3,11 +3,13 @@ use Rattle.std.proofs.Common.{inl, inr, refl}
 use Rattle.std.specs.Prelude.{◌≡◌, ℕ, true, List, [], codes}
 use Rattle.granit_base.specs.Classes.{is_digit}
 use Rattle.granit_json_scalars.specs.Json.{Json, Bare, Array, Object, NoElement, AfterElements, NoMember, AfterMembers}
-use Rattle.granit_json_scalars.specs.JsonEvents.{json_events}
+pub use Rattle.granit_json_scalars.specs.JsonEvents.{json_events}
 use Rattle.granit_json_scalars.specs.JsonScalars.{is_json_white, is_unescaped, itself, short, slash, IsString, no_more}
-use Rattle.granit_json_scalars.specs.JsonScalars.{one_more, positive, negative, fraction, no_fraction, unsigned, exponent}
+use Rattle.granit_json_scalars.specs.JsonScalars.{one_more, positive, negative, fraction, no_fraction, unsigned}
+use Rattle.granit_json_scalars.specs.JsonScalars.{exponent}
 use Rattle.granit_json_scalars.specs.JsonScalars.{no_exponent, IsJsonNumber}
-use Rattle.granit_json_scalars.specs.JsonText.{JsonText, bare, no_elements, elements, no_members, members, part}
+use Rattle.granit_json_scalars.specs.JsonText.{bare, no_elements, elements, no_members, members, part}
+pub use Rattle.granit_json_scalars.specs.JsonText.{JsonText}
 use Rattle.granit_json_scalars.specs.JsonText.{one_element, next_element, member, one_member, next_member}
 use Rattle.granit_lexemes.specs.Line.{event_lines}
 

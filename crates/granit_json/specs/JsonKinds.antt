@@ -1,7 +1,9 @@
 -- What is told of a JSON value, wherever its text stands.
+pub use Rattle.granit_json_scalars.specs.JsonText.{NamesFit}
+pub use Rattle.granit_json_scalars.specs.Json.{Json, json_depth}
 use Rattle.std.specs.Prelude.{false, List, [], ◌∷◌, map, None}
 use Rattle.granit_base.specs.declared.style.ScalarStyle.TheVariants.{DoubleQuoted, Plain}
-use Rattle.granit_json_scalars.specs.Json.{Json, Text, Bare, Array, Object, Elements, NoElement, AfterElements, Members}
+use Rattle.granit_json_scalars.specs.Json.{Text, Bare, Array, Object, Elements, NoElement, AfterElements, Members}
 use Rattle.granit_json_scalars.specs.Json.{NoMember, AfterMembers}
 use Rattle.granit_json_scalars.specs.JsonEvents.{array_start, object_start, scalar_of}
 use Rattle.granit_lexemes.specs.Basics.{owned}

@@ -2,8 +2,10 @@
 use Rattle.std.proofs.Common.{Bool, List, [], ap, arith, false, inl, inr, refl, subst, sym, true, ℕ, ◌++◌, ◌==◌}
 use Rattle.std.proofs.Common.{◌||◌, ◌∙◌, ◌∷◌, ◌≡◌, ◌⊎◌}
 use Rattle.granit_base.specs.Classes.{is_digit, is_within}
-use Rattle.granit_json_scalars.specs.JsonScalars.{Digits, Exponent, Fraction, IsJsonNumber, IsName, Minus, NumberSign, Whole}
-use Rattle.granit_json_scalars.specs.JsonScalars.{exponent, fraction, minus, negative, no_exponent, no_fraction, plus, positive}
+use Rattle.granit_json_scalars.specs.JsonScalars.{Digits, Exponent, Fraction, IsJsonNumber, IsName, Minus, NumberSign}
+use Rattle.granit_json_scalars.specs.JsonScalars.{Whole}
+use Rattle.granit_json_scalars.specs.JsonScalars.{exponent, fraction, minus, negative, no_exponent, no_fraction, plus}
+use Rattle.granit_json_scalars.specs.JsonScalars.{positive}
 use Rattle.granit_json_scalars.specs.JsonScalars.{unsigned}
 use Rattle.granit_lexemes.specs.Gap.{Each}
 

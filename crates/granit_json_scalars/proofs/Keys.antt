@@ -15,7 +15,8 @@ use Rattle.granit_canonical_steps.proofs.Taking.{begins_text, begins_with, is_ma
 use Rattle.granit_canonical_steps.specs.Canonical.{spot, stretch}
 use Rattle.granit_error.specs.OptionsData.{OptionsData}
 use Rattle.granit_json_scalars.proofs.Gaps.{tail_past}
-use Rattle.granit_json_scalars.proofs.Named.{Named, named_done, named_due, named_flow, named_fresh, named_key, named_noded}
+use Rattle.granit_json_scalars.proofs.Named.{Named, named_done, named_due, named_flow, named_fresh, named_key}
+use Rattle.granit_json_scalars.proofs.Named.{named_noded}
 use Rattle.granit_json_scalars.proofs.Named.{new_key_low, none_below, not_stale}
 use Rattle.granit_json_scalars.proofs.Open.{open_inside, open_tabs}
 use Rattle.granit_json_scalars.proofs.Quoted.{at_mark, before_string, quotes_here}

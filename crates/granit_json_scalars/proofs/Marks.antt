@@ -2,8 +2,10 @@
 use Rattle.std.proofs.Common.{List, ap, arith, drop, false, length, refl, true, ℕ, ◌++◌, ◌<◌}
 use Rattle.std.proofs.Common.{◌∷◌, ◌≡◌}
 use Rattle.std.specs.Prelude.{None, if◌then◌else◌}
-use Rattle.granit_canonical_steps.proofs.Calm.{Calm, Fine, calm_behind, calm_closed, calm_forgets, calm_noded, calm_opened}
-use Rattle.granit_canonical_steps.proofs.Calm.{calm_shut, shape_flow, shape_innermost, shape_length, stands_inside, top_mild}
+use Rattle.granit_canonical_steps.proofs.Calm.{Calm, Fine, calm_behind, calm_closed, calm_forgets, calm_noded}
+use Rattle.granit_canonical_steps.proofs.Calm.{calm_opened}
+use Rattle.granit_canonical_steps.proofs.Calm.{calm_shut, shape_flow, shape_innermost, shape_length, stands_inside}
+use Rattle.granit_canonical_steps.proofs.Calm.{top_mild}
 use Rattle.granit_canonical_steps.proofs.Places.{Held, Starts, held_on, marked}
 use Rattle.granit_canonical_steps.proofs.Signs.{source_is, closer_begins, opener_begins, comma_begins}
 use Rattle.granit_canonical_steps.proofs.Taking.{Taken, begins_text, passed_at}

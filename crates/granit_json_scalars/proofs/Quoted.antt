@@ -10,7 +10,8 @@ use Rattle.granit_base.specs.Classes.{is_break, is_printable}
 use Rattle.granit_base.specs.Place.{Mark, first}
 use Rattle.granit_base.specs.Written.{Written}
 use Rattle.granit_base.specs.declared.style.ScalarStyle.TheVariants.{DoubleQuoted}
-use Rattle.granit_canonical_steps.proofs.Calm.{Calm, Fine, Mild, Shape, calm_closed, calm_noded, shape_flow, no_cut_fits}
+use Rattle.granit_canonical_steps.proofs.Calm.{Calm, Fine, Mild, Shape, calm_closed, calm_noded, shape_flow}
+use Rattle.granit_canonical_steps.proofs.Calm.{no_cut_fits}
 use Rattle.granit_canonical_steps.proofs.Places.{Held, Starts, directly, gap_stops, gap_to, marked, past_all}
 use Rattle.granit_canonical_steps.proofs.Quotes.{quote_begins, mark_trails, closing_quote, mark_prints}
 use Rattle.granit_canonical_steps.proofs.Signs.{source_is}

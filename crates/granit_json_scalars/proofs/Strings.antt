@@ -13,7 +13,8 @@ use Rattle.std.specs.List.{list_all}
 use Rattle.std.specs.Prelude.{Some}
 use Rattle.granit_base.specs.Classes.{is_blank, is_break, is_gap, is_printable}
 use Rattle.granit_canonical_steps.proofs.Quoting.{one_more_blank}
-use Rattle.granit_json_scalars.specs.JsonScalars.{IsString, ShortEscape, SpellsCharacter, backslash, backspace, carriage_return}
+use Rattle.granit_json_scalars.specs.JsonScalars.{IsString, ShortEscape, SpellsCharacter, backslash, backspace}
+use Rattle.granit_json_scalars.specs.JsonScalars.{carriage_return}
 use Rattle.granit_json_scalars.specs.JsonScalars.{form_feed, halves, is_unescaped, itself, line_feed, no_more, numbered}
 use Rattle.granit_json_scalars.specs.JsonScalars.{one_more, quote, short, slash, tab}
 use Rattle.granit_lexemes.specs.Decoding.{Escape, letter_value}

@@ -8,8 +8,10 @@ use Rattle.granit_base.specs.declared.style.StructureStyle.TheVariants.{Flow}
 use Rattle.granit_canonical_steps.specs.Canonical.{spot, stretch}
 use Rattle.granit_json_scalars.specs.Json.{Json, Elements, Members}
 use Rattle.granit_json_scalars.specs.JsonScalars.{is_unescaped}
-use Rattle.granit_json_scalars.specs.JsonText.{ValueText, text, bare, no_elements, elements, no_members, members, PartText}
-use Rattle.granit_json_scalars.specs.JsonText.{part, ElementsText, one_element, next_element, MemberText, member, MembersText}
+use Rattle.granit_json_scalars.specs.JsonText.{ValueText, text, bare, no_elements, elements, no_members, members}
+use Rattle.granit_json_scalars.specs.JsonText.{PartText}
+use Rattle.granit_json_scalars.specs.JsonText.{part, ElementsText, one_element, next_element, MemberText, member}
+use Rattle.granit_json_scalars.specs.JsonText.{MembersText}
 use Rattle.granit_json_scalars.specs.JsonText.{one_member, next_member, JsonText}
 use Rattle.granit_language.specs.Terminal.{text_start}
 use Rattle.granit_lexemes.specs.PlainEvent.{DocumentEnd, DocumentStart, EventKind, MappingEnd, MappingStart, PlainEvent}

@@ -38,7 +38,7 @@ use Rattle.granit_language.specs.Standing.{QuestionStands, QuestionTail, a_comme
 use Rattle.granit_places.proofs.ColumnsWhole.{latest_noted}
 use Rattle.granit_places.proofs.Counting.{At, start_at, to_step}
 use Rattle.granit_places.proofs.PlacesLaw.{gap_passes, given_places}
-use Rattle.granit_reading.proofs.ReadingLaw.{stops_there}
+use Rattle.granit_places.proofs.Telling.{stops_there}
 use Rattle.granit_key_runs.proofs.RunsLaw.{onward, TabSays}
 use Rattle.granit_places.proofs.Signs.{TabSeen, sign_tab, comment_end, From, from_gap, from_comment, from_tail}
 use Rattle.granit_places.proofs.Signs.{over_break_from}

@@ -1,7 +1,7 @@
 -- Behind which items a value may stand at once.
 use Rattle.std.proofs.Common.{◌≡◌, ◌&&◌, Bool, true, false, List, [], ◌∷◌, ◌++◌, Option, Some, None, refl, sym, ap, ◌∙◌}
 use Rattle.std.specs.Prelude.{if◌then◌else◌}
-use Rattle.granit_order.proofs.KeysMoved.{clash}
+use Rattle.granit_declared.proofs.FieldsSaid.{clash}
 use Rattle.granit_base.specs.Written.{Written}
 use Rattle.granit_error.specs.OptionsData.{OptionsData}
 use Rattle.granit_language.specs.Before.{freshened, in_front, last_of_colon}

@@ -22,14 +22,14 @@ use Rattle.granit_machine.specs.NodeLexemes.{note_items}
 use Rattle.granit_machine.specs.Parser.{feed}
 use Rattle.granit_machine.specs.Reader.{LexState, behind_read, is_end, is_end_kind, lex_turn, read}
 use Rattle.granit_machine.specs.ReaderState.{Read, ReaderState}
-use Rattle.granit_reading.proofs.Answering.{Answers}
-use Rattle.granit_reading.proofs.ReadingLaw.{read-is, ReadsBy}
+use Rattle.granit_places.proofs.Telling.{Answers}
+use Rattle.granit_places.proofs.Telling.{read-is, ReadsBy}
 use Rattle.granit_places.proofs.Telling.{end_sort}
 use Rattle.granit_places.proofs.Telling.{telling}
 use Rattle.granit_restart.proofs.MarkLaws.{items, pushed_items}
 use Rattle.granit_steps.proofs.Futures.{pushed_nil}
-use Rattle.granit_streams.proofs.StreamLaws.{has_end}
-use Rattle.granit_streams.proofs.StreamNesting.{is_end_item}
+pub use Rattle.granit_streams.proofs.StreamLaws.{has_end}
+pub use Rattle.granit_streams.proofs.StreamNesting.{is_end_item}
 use Rattle.granit_steps.specs.Steps.{StepState, Turn, front_turn, incoming, line_behind, may_go, pushed, read_more}
 use Rattle.granit_steps.specs.Steps.{read_unless}
 use Rattle.granit_steps.specs.Steps.{step_turn, turn_by, with_fed, with_read}

@@ -28,8 +28,8 @@ use Rattle.granit_machine.specs.NodeLexemes.{note_items}
 use Rattle.granit_machine.specs.Parser.{feed}
 use Rattle.granit_machine.specs.Reader.{behind_read, lex_turn, read}
 use Rattle.granit_machine.specs.ReaderState.{Read, ReaderState}
-use Rattle.granit_reading.proofs.Answering.{Answers}
-use Rattle.granit_reading.proofs.ReadingLaw.{read-is, ReadsBy}
+use Rattle.granit_places.proofs.Telling.{Answers}
+use Rattle.granit_places.proofs.Telling.{read-is, ReadsBy}
 use Rattle.granit_places.proofs.Telling.{SaysOf, telling}
 use Rattle.granit_restart.proofs.MarkLaws.{items, pushed_items}
 use Rattle.granit_restart.specs.Boundary.{AtStart, AtTextEnd, Boundary, next_boundary, PastEnd}

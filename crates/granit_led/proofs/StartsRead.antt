@@ -17,9 +17,9 @@ use Rattle.granit_machine.specs.LexemeSort.{PlainSign}
 use Rattle.granit_machine.specs.NodeLexemes.{note_items}
 use Rattle.granit_machine.specs.Reader.{read}
 use Rattle.granit_machine.specs.ReaderState.{ReaderState}
-use Rattle.granit_reading.proofs.Answering.{Answers}
-use Rattle.granit_reading.proofs.ReadingLaw.{read-is, ReadsBy}
-use Rattle.granit_places.proofs.Telling.{SaysOf, telling}
+use Rattle.granit_places.proofs.Telling.{Answers}
+use Rattle.granit_places.proofs.Telling.{read-is, ReadsBy}
+pub use Rattle.granit_places.proofs.Telling.{SaysOf, telling}
 use Rattle.granit_led.proofs.MarkWaits.{any_of, none_in, of_sort, one_in, OneIn}
 use Rattle.granit_led.specs.Found.{StartRead}
 

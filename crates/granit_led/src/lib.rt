@@ -3,4 +3,7 @@
 
 mod led;
 
-pub use led::{calls_and_recoveries_lead_on, handles_that_stay_were_declared, recovery_goes_on_behind_the_fault};
+pub use led::{
+    calls_and_recoveries_lead_on, handles_that_stay_were_declared,
+    recovery_goes_on_behind_the_fault,
+};

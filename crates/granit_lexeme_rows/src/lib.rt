@@ -3,4 +3,7 @@
 
 mod rows;
 
-pub use rows::{documents, flow_signs, indicators, properties, refused_directives, small_reading, strict_reading};
+pub use rows::{
+    documents, flow_signs, indicators, properties, refused_directives, small_reading,
+    strict_reading,
+};

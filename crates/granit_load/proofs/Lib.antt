@@ -1,4 +1,4 @@
 pub mod GatherLemmas
 mod LineLemmas
-mod LoadLemmas
+pub mod LoadLemmas
 mod StreamLemmas

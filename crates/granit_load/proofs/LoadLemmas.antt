@@ -2,16 +2,16 @@
 use Rattle.std.proofs.Common.{◌≡◌, ◌≢◌, ℕ, List, [], Option, Some, None, Result, Ok, Err, ◌⊎◌, inl, inr}
 use Rattle.std.proofs.Common.{false, refl, sym, ap, subst, ◌∙◌, ◌≤◌}
 use Rattle.std.specs.Prelude.{IfOk, IfErr}
-use Rattle.granit_answers.proofs.CommentsCaused.{any_fault_caused}
-use Rattle.granit_answers.proofs.OneCause.{answer_reads, cause_answered, reading_answered}
+use Rattle.granit_readings.proofs.ReadOnce.{any_fault_caused}
+use Rattle.granit_readings.proofs.ReadOnce.{answer_reads, cause_answered, reading_answered}
 use Rattle.granit_base.specs.Classes.{is_printable}
-use Rattle.granit_declared.specs.DeclaredCause.{DeclaredCause}
-use Rattle.granit_declared.specs.DeclaredReading.{DeclaredReading}
-use Rattle.granit_declared.proofs.CauseSaid.{cause_declared, declared_cause}
-use Rattle.granit_declared.proofs.ReadingSaid.{answer_declared, declared_answer}
+use Rattle.granit_parser.specs.Parsing.{DeclaredCause}
+use Rattle.granit_parser.specs.Parsing.{DeclaredReading}
+use Rattle.granit_parser.proofs.TextLemmas.{cause_declared, declared_cause}
+use Rattle.granit_parser.proofs.TextLemmas.{answer_declared, declared_answer}
 use Rattle.granit_block_layout.specs.Alike.{kinds_of}
 use Rattle.granit_block_layout.proofs.Laws.{block_is_read}
-use Rattle.granit_canonical_steps.specs.Canonical.{canonical_events}
+use Rattle.granit_canonical.specs.Examples.{canonical_events}
 use Rattle.granit_canonical.proofs.Laws.{canonical_is_read}
 use Rattle.granit_comments.specs.TextComments.{TellsComments, ToldUnasked}
 use Rattle.granit_comments.proofs.Told.{comments_told}
@@ -22,12 +22,13 @@ use Rattle.granit_error.specs.Refused.{Refused}
 use Rattle.granit_generator.specs.BlockText.{block_characters}
 use Rattle.granit_input.specs.Origin.{Origin}
 use Rattle.granit_invariants.specs.EventPlaces.{EventsInText}
-use Rattle.granit_quiet.specs.Quiet.{but_comments}
+use Rattle.granit_readings.specs.ReadAsTrees.{but_comments}
 use Rattle.granit_invariants.proofs.SpanLaw.{events_in_text}
-use Rattle.granit_json_scalars.specs.Json.{Json, json_depth}
-use Rattle.granit_json_scalars.specs.JsonEvents.{json_events}
-use Rattle.granit_json_scalars.specs.JsonText.{JsonText, NamesFit}
-use Rattle.granit_json.proofs.Laws.{json_answered}
+use Rattle.granit_json.specs.JsonKinds.{Json, json_depth}
+use Rattle.granit_json.specs.Examples.{json_events}
+use Rattle.granit_json.specs.Examples.{JsonText}
+use Rattle.granit_json.specs.JsonKinds.{NamesFit}
+pub use Rattle.granit_json.proofs.Laws.{json_answered}
 use Rattle.granit_lexemes.specs.Gap.{Each}
 use Rattle.granit_lexemes.specs.Outcome.{Fault, Fails, GivesValue}
 use Rattle.granit_lexemes.specs.PlainEvent.{PlainEvent}
@@ -38,7 +39,7 @@ use Rattle.granit_model.specs.Tree.{DocumentsFit, PlainTrees, trees_depth}
 use Rattle.granit_load.specs.Answering.{GivesAllOr, IsRefusedAs}
 use Rattle.granit_load.proofs.GatherLemmas.{never_failed, never_numbered}
 use Rattle.granit_parser.proofs.TextLemmas.{memory_or_not}
-use Rattle.granit_read_answers.proofs.ParserSources.{run_none}
+use Rattle.granit_parser.proofs.TextLemmas.{run_none}
 use Rattle.granit_readings.specs.ReadAsTrees.{TellsTrees}
 use Rattle.granit_readings.proofs.ReadOnce.{answer_trees}
 use Rattle.granit_parser.specs.Parsing.{Stepping}

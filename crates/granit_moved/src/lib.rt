@@ -4,5 +4,8 @@
 mod moving;
 mod rows;
 
-pub use moving::{a_text_is_read_alike_wherever_it_stands, calls_give_alike_wherever_a_text_stands, items_are_fed_alike_wherever_they_stand};
+pub use moving::{
+    a_text_is_read_alike_wherever_it_stands, calls_give_alike_wherever_a_text_stands,
+    items_are_fed_alike_wherever_they_stand,
+};
 pub use rows::texts_behind_others;

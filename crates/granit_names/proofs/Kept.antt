@@ -16,7 +16,7 @@ use Rattle.granit_lexemes.specs.PlainExtent.{over}
 use Rattle.granit_lexemes.specs.Basics.{fails_at}
 use Rattle.granit_lexemes.specs.Pieces.{with_front, then_more, turns, pieces}
 use Rattle.granit_scalars.proofs.QuotedEscapes.{over_text}
-use Rattle.granit_scalars.proofs.Stepping.{seen, over-append}
+pub use Rattle.granit_scalars.proofs.Stepping.{over-append, seen}
 use Rattle.granit_lexemes.specs.Tags.{Budget, UriState, is_utf8, escaped_byte, bytes_behind, trailing_bytes}
 use Rattle.granit_lexemes.specs.Tags.{spelled_char, escaped_by, uri_turn, decoded}
 use Rattle.granit_lexemes.specs.TagExtent.{byte_of, is_escape, is_trailing}

@@ -12,8 +12,9 @@ use Rattle.granit_lexemes.specs.Outcome.{Fault}
 use Rattle.granit_lexemes.specs.PlainExtent.{over}
 use Rattle.granit_lexemes.specs.Basics.{fails_at, as_spelled}
 use Rattle.granit_lexemes.proofs.HereLemmas.{not_empty, stepped_text}
-use Rattle.granit_scalars.proofs.Comments.{same_run}
-use Rattle.granit_scalars.proofs.Stepping.{Seen, seen, second_of}
+pub use Rattle.granit_scalars.proofs.Comments.{same_run}
+use Rattle.granit_scalars.proofs.Stepping.{Seen, second_of}
+pub use Rattle.granit_scalars.proofs.Stepping.{seen}
 use Rattle.granit_lexemes.specs.Tags.{name_up_to, name_at}
 use Rattle.granit_lexemes.specs.NameExtent.{is_name_sign, NameStands, AnswersName, RefusesName, nameless}
 use Rattle.granit_names.proofs.Runs.{run_of, past_run, count_over, text_over}

@@ -6,7 +6,7 @@ use Rattle.granit_lexemes.specs.Gap.{Each}
 use Rattle.granit_lexemes.specs.Here.{Here, text_len, step, past}
 use Rattle.granit_lexemes.specs.PlainExtent.{over}
 use Rattle.granit_lexemes.proofs.HereLemmas.{past_goes, past_stops, stepped_text}
-use Rattle.granit_scalars.proofs.QuotedEscapes.{over_text}
+pub use Rattle.granit_scalars.proofs.QuotedEscapes.{over_text}
 use Rattle.granit_lexemes.specs.Basics.{count_up_to, text_up_to}
 
 -- the characters in front of a class, all of them, and what stands behind

@@ -16,7 +16,7 @@ use Rattle.granit_lexemes.specs.Moves.{steps}
 use Rattle.granit_lexemes.specs.Outcome.{Fault, ◌>>=◌}
 use Rattle.granit_lexemes.specs.PlainExtent.{over}
 use Rattle.granit_scalars.proofs.QuotedEscapes.{over_text}
-use Rattle.granit_scalars.proofs.Stepping.{over-append}
+pub use Rattle.granit_scalars.proofs.Stepping.{over-append}
 use Rattle.granit_lexemes.specs.Basics.{text_up_to}
 use Rattle.granit_lexemes.specs.Tags.{TagRead, tag_of, tag_ends, behind_verbatim, behind_handle, short_tag, tag_by}
 use Rattle.granit_lexemes.specs.Tags.{tag_at}

@@ -5,7 +5,8 @@ use Rattle.granit_views.specs.Good.{pair_value}
 use Rattle.granit_views.specs.Stepping.{MeansView, LimitView}
 use Rattle.granit_views.specs.Steps.{topped}
 use Rattle.granit_event_machine.specs.EventMachine.{Key, OpenFrame, PropertiesFrame, MappingFrame, InFrames, EventState}
-use Rattle.granit_event_machine.specs.EventMachine.{EventStep, GoesTo, StopsWith, after_events, frames_indent, put_frames}
+use Rattle.granit_event_machine.specs.EventMachine.{EventStep, GoesTo, StopsWith, after_events, frames_indent}
+use Rattle.granit_event_machine.specs.EventMachine.{put_frames}
 use Rattle.granit_event_machine.specs.EventMachine.{flow_frame, part_frames}
 use Rattle.granit_event_machine.specs.Guarded.{blocks_open, state_count, is_loose, fault_unless, first_fault}
 use Rattle.granit_language.specs.GrammarFault.{GrammarFault, TooManyBlocks}

@@ -2,8 +2,10 @@
 use Rattle.granit_views.specs.Good.{Holes}
 use Rattle.granit_views.specs.Stepping.{taken}
 use Rattle.granit_language.specs.Seen.{terminal_kind}
-use Rattle.granit_event_machine.specs.EventMachine.{Opened, KeyDone, AskDone, Solo, Done, Value, OpenFrame, MappingFrame}
-use Rattle.granit_event_machine.specs.EventMachine.{FlowSequenceFrame, FlowMappingFrame, FlowPairFrame, InFrames, EventStep}
+use Rattle.granit_event_machine.specs.EventMachine.{Opened, KeyDone, AskDone, Solo, Done, Value, OpenFrame}
+use Rattle.granit_event_machine.specs.EventMachine.{MappingFrame}
+use Rattle.granit_event_machine.specs.EventMachine.{FlowSequenceFrame, FlowMappingFrame, FlowPairFrame, InFrames}
+use Rattle.granit_event_machine.specs.EventMachine.{EventStep}
 use Rattle.granit_event_machine.specs.EventMachine.{GoesTo, StopsWith, ended_by, put_frames}
 use Rattle.granit_event_machine.specs.Guarded.{blocks_open, first_fault, whole_guard}
 use Rattle.granit_language.specs.Scope.{Scope}

@@ -3,8 +3,10 @@ use Rattle.granit_views.specs.Good.{Holes, at_item, at_curly, curly_key, curly_a
 use Rattle.granit_views.specs.Good.{made_value, pair_asked, pair_value}
 use Rattle.granit_views.specs.Stepping.{MeansView}
 use Rattle.granit_language.specs.Seen.{terminal_kind}
-use Rattle.granit_event_machine.specs.EventMachine.{Opened, Key, Asking, Value, OpenFrame, PropertiesFrame, FlowSequenceFrame}
-use Rattle.granit_event_machine.specs.EventMachine.{FlowMappingFrame, FlowPairFrame, EventState, InFrames, GoesTo, put_frames}
+use Rattle.granit_event_machine.specs.EventMachine.{Opened, Key, Asking, Value, OpenFrame, PropertiesFrame}
+use Rattle.granit_event_machine.specs.EventMachine.{FlowSequenceFrame}
+use Rattle.granit_event_machine.specs.EventMachine.{FlowMappingFrame, FlowPairFrame, EventState, InFrames, GoesTo}
+use Rattle.granit_event_machine.specs.EventMachine.{put_frames}
 use Rattle.granit_language.specs.Node.{NoProperties, One}
 use Rattle.granit_language.specs.Terminal.{Tag, is_comma_kind, closes_kind}
 use Rattle.granit_language.specs.TreeEvents.{TreeEvent, alias_event, pair_start}

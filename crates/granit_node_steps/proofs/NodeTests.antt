@@ -4,7 +4,8 @@ use Rattle.granit_views.specs.Stepping.{LimitView}
 use Rattle.granit_views.specs.Steps.{topped, asks, colons, dashes}
 use Rattle.granit_views.specs.View.{Beside, frames_of}
 use Rattle.granit_language.specs.Seen.{terminal_kind}
-use Rattle.granit_event_machine.specs.EventMachine.{Asking, Value, OpenFrame, MappingFrame, EventStep, StopsWith, if_gives}
+use Rattle.granit_event_machine.specs.EventMachine.{Asking, Value, OpenFrame, MappingFrame, EventStep, StopsWith}
+use Rattle.granit_event_machine.specs.EventMachine.{if_gives}
 use Rattle.granit_event_machine.specs.EventMachine.{part_frames, frames_room, stop_kind, want_frames}
 use Rattle.granit_event_machine.specs.Guarded.{blocks_open}
 use Rattle.granit_language.specs.Choice.{choose}

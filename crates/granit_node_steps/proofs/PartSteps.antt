@@ -6,7 +6,8 @@ use Rattle.granit_views.specs.Stepping.{MeansView, StepView, at_kind, staying}
 use Rattle.granit_views.specs.Steps.{topped}
 use Rattle.granit_views.specs.View.{last_of, with_given, frames_of, Beside, state_of}
 use Rattle.granit_language.specs.Seen.{indent_of}
-use Rattle.granit_event_machine.specs.EventMachine.{OpenFrame, InFrames, frames_indent, put_frames, flow_frame, part_frames}
+use Rattle.granit_event_machine.specs.EventMachine.{OpenFrame, InFrames, frames_indent, put_frames, flow_frame}
+use Rattle.granit_event_machine.specs.EventMachine.{part_frames}
 use Rattle.granit_language.specs.GrammarFault.{GrammarFault, UnknownAnchor, UndeclaredTagHandle}
 use Rattle.granit_language.specs.Node.{TreeProperties, NoProperties, One, Two}
 use Rattle.granit_language.specs.Room.{joins}

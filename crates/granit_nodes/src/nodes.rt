@@ -10,7 +10,7 @@ ghost use Rattle.granit_sorts.specs.SortViews.{machine_token, of_kind, sort_view
 ghost use Rattle.granit_frames.specs.Refusing.{AnswersValue, RefusesByFault};
 ghost use Rattle.granit_frames.specs.StateViews.{has_properties};
 ghost use Rattle.granit_frames.specs.Wanting.{StepWantsToGive};
-ghost use Rattle.granit_node_properties.specs.PropertyViews.{bears};
+ghost use Rattle.granit_frames.specs.StateViews.{bears};
 ghost use Rattle.granit_nesting.specs.FrameViews.{pair_view};
 ghost use Rattle.granit_items.specs.ItemViews.{boxed_view};
 ghost use Rattle.granit_items.specs.declared.item.LexemeKind.TheVariants as kinds;

@@ -4,5 +4,7 @@
 mod lending;
 mod offsets;
 
-pub use lending::{borrowed_texts_of_the_examples, lending_changes_nothing_else, no_text_is_borrowed_unlent};
+pub use lending::{
+    borrowed_texts_of_the_examples, lending_changes_nothing_else, no_text_is_borrowed_unlent,
+};
 pub use offsets::offsets_change_nothing_else;

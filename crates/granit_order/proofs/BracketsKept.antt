@@ -1,4 +1,11 @@
 -- The brackets of the flagged lexemes of a text are in order.
+pub use Rattle.granit_quiet.proofs.EndTelling.{lexed_whole, none_waits_behind, run_told}
+pub use Rattle.granit_quiet.proofs.TellStream.{all_read_whole, flow_decided, lexed}
+pub use Rattle.granit_quiet.proofs.CommentLaws.{Lexed, answer_to, items_given, none_told, run_given, run_same}
+pub use Rattle.granit_quiet.proofs.CommentLaws.{settled_asked}
+pub use Rattle.granit_places.proofs.ColumnsWhole.{agrees_said, fresh_said, latest_joined, latest_noted, reads_said}
+pub use Rattle.granit_places.proofs.ColumnsLaw.{cols, front_flow, some_of}
+pub use Rattle.granit_places.proofs.ColumnsKept.{OpenSays}
 use Rattle.std.proofs.Common.{◌≡◌, ℕ, Bool, true, false, List, [], ◌∷◌, ◌++◌, map, Option, Some, None, refl, sym, ap}
 use Rattle.std.proofs.Common.{◌∙◌, subst}
 use Rattle.granit_base.specs.Place.{Mark}
@@ -27,8 +34,9 @@ use Rattle.granit_places.proofs.Choosing.{Held, Within, within_self, Below, belo
 use Rattle.granit_places.proofs.Choosing.{chosen_within, and_number, pending, stepped, below_moves, role_key}
 use Rattle.granit_places.proofs.Holding.{held, full, fresh-within}
 use Rattle.granit_places.proofs.KeysLaw.{named}
-use Rattle.granit_places.proofs.Moving.{agrees_held, lexeme_moved, closed_held}
-use Rattle.granit_places.proofs.Telling.{gap_agrees, telling}
+use Rattle.granit_places.proofs.Moving.{agrees_held, closed_held}
+pub use Rattle.granit_places.proofs.Moving.{lexeme_moved}
+pub use Rattle.granit_places.proofs.Telling.{gap_agrees, telling}
 use Rattle.granit_order.specs.Order.{open_behind, may_follow, closes_innermost, EndsThere, BracketsFrom}
 use Rattle.granit_order.proofs.BracketsPassed.{kinds_in, kinds_flow, Passed, passed}
 

@@ -33,7 +33,8 @@ use Rattle.granit_reading.proofs.Deciding.{asserts, bracket_decided}
 use Rattle.granit_places.proofs.Choosing.{Held, Within, within_self, Moves}
 use Rattle.granit_places.proofs.Holding.{held, Noted, node_noted}
 use Rattle.granit_places.proofs.Moving.{Moved, agrees_held, role_unkeyed}
-use Rattle.granit_places.proofs.Telling.{Unkeyed, SaysOf, Agrees}
+use Rattle.granit_places.proofs.Telling.{Unkeyed, Agrees}
+pub use Rattle.granit_places.proofs.Telling.{SaysOf}
 use Rattle.granit_order.specs.Order.{outer_brackets, open_behind, may_follow, is_innermost, closes_innermost}
 
 abbrev pub kinds_in : List OpenBracket → List Bracket

@@ -4,7 +4,8 @@ use Rattle.granit_base.specs.Place.{Mark}
 use Rattle.granit_views.specs.Fair.{frames_in_flow, FairBehind, FairFinish, Fair}
 use Rattle.granit_event_machine.specs.EventMachine.{Opened, Key, KeyDone, Asking, AskDone, Solo, Done, Value, OpenFrame}
 use Rattle.granit_event_machine.specs.EventMachine.{DocumentFrame, PropertiesFrame, SequenceFrame, MappingFrame}
-use Rattle.granit_event_machine.specs.EventMachine.{FlowSequenceFrame, FlowMappingFrame, FlowPairFrame, EventState, IsFresh}
+use Rattle.granit_event_machine.specs.EventMachine.{FlowSequenceFrame, FlowMappingFrame, FlowPairFrame, EventState}
+use Rattle.granit_event_machine.specs.EventMachine.{IsFresh}
 use Rattle.granit_event_machine.specs.EventMachine.{HasDirectives, IsRooted, InFrames, frames_room, put_frames}
 use Rattle.granit_language.specs.Node.{One, Two}
 use Rattle.granit_language.specs.Room.{behind_property}

@@ -10,11 +10,14 @@ use Rattle.granit_views.specs.Stepping.{taken}
 use Rattle.granit_language.specs.Seen.{Flagged, terminal_of}
 use Rattle.granit_event_machine.specs.EventMachine.{Key, Asking, AskDone, Done, Value, OpenFrame, DocumentFrame}
 use Rattle.granit_event_machine.specs.EventMachine.{PropertiesFrame, SequenceFrame, MappingFrame, FlowSequenceFrame}
-use Rattle.granit_event_machine.specs.EventMachine.{FlowMappingFrame, EventState, IsFresh, InFrames, IsEnded, FlowPairFrame}
+use Rattle.granit_event_machine.specs.EventMachine.{FlowMappingFrame, EventState, IsFresh, InFrames, IsEnded}
+use Rattle.granit_event_machine.specs.EventMachine.{FlowPairFrame}
 use Rattle.granit_event_machine.specs.EventMachine.{Ending, ending, with_event, past_sequence, past_mapping, past_asked}
-use Rattle.granit_event_machine.specs.EventMachine.{past_curly, past_curly_asked, past_made, past_square_asked, frames_room}
+use Rattle.granit_event_machine.specs.EventMachine.{past_curly, past_curly_asked, past_made, past_square_asked}
+use Rattle.granit_event_machine.specs.EventMachine.{frames_room}
 use Rattle.granit_event_machine.specs.EventMachine.{frames_indent, nothing_event, site_opens, stop_kind, Opened}
-use Rattle.granit_event_machine.specs.EventMachine.{finish_frames, nothing_frames, frames_empty, nothing_end, close_frames}
+use Rattle.granit_event_machine.specs.EventMachine.{finish_frames, nothing_frames, frames_empty, nothing_end}
+use Rattle.granit_event_machine.specs.EventMachine.{close_frames}
 use Rattle.granit_event_machine.specs.EventMachine.{ended_by, EventStep, GoesTo, StopsWith, after_events, if_gives}
 use Rattle.granit_event_machine.specs.EventMachine.{part_frames, BlockSite, FlowSite, entry_frames, begin_pair_frames}
 use Rattle.granit_event_machine.specs.EventMachine.{want_frames, take_frames}

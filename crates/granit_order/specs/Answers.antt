@@ -1,4 +1,6 @@
 -- What an answer is to the readings of the lexemes of a text.
+pub use Rattle.granit_quiet.specs.CommentEvents.{comment_event, comment_events, item_events, only_comments}
+pub use Rattle.granit_quiet.specs.CommentEvents.{tail_events}
 use Rattle.std.specs.Prelude.{◌≡◌, ℕ, true, List, None, Ok}
 use Rattle.granit_error.specs.OptionsData.{OptionsData}
 use Rattle.granit_language.specs.Seen.{terminals_of}
@@ -10,8 +12,7 @@ use Rattle.granit_language.specs.Whole.{WholeReading}
 use Rattle.granit_lexemes.specs.Here.{start_of}
 use Rattle.granit_lexemes.specs.Lexeme.{Item}
 use Rattle.granit_lexemes.specs.PlainEvent.{PlainEvent}
-use Rattle.granit_quiet.specs.CommentEvents.{comment_events, only_comments}
-use Rattle.granit_quiet.specs.Quiet.{but_comments}
+pub use Rattle.granit_quiet.specs.Quiet.{but_comments}
 use Rattle.granit_machine.specs.Lexing.{flagged, lex}
 use Rattle.granit_machine.specs.Reader.{LexState}
 use Rattle.granit_machine.specs.ReaderState.{reader_start}

@@ -2,6 +2,8 @@
 -- flow no `-` stands, and a simple key begins only behind an opener or a `,`; outside flow, what stands between the
 -- begin of a simple key and its `:` stands right of it and begins nothing else; the end is the last (YAML 1.2.2, 7.4
 -- and 8.2).
+pub use Rattle.granit_views.specs.Running.{FairRun, GivesTold}
+pub use Rattle.granit_views.specs.View.{IsFresh, item_of}
 use Rattle.std.specs.Prelude.{◌≡◌, ℕ, Bool, true, false, List, [], ◌∷◌, Option, Some, None}
 use Rattle.granit_views.specs.Fair.{is_key_part}
 use Rattle.granit_language.specs.Seen.{Flagged, terminal_of}

@@ -1,6 +1,7 @@
 -- What calls give behind a boundary is what the text that is left there tells alone, moved.
+pub use Rattle.granit_chains.proofs.Telling.{told}
 use Rattle.std.proofs.Common.{◌≡◌, ◌≢◌, ℕ, Bool, List, [], ◌∷◌, ◌++◌, Some, None, Ok, Err, ◌⊎◌, inl, inr}
-use Rattle.granit_alone.proofs.AloneLaws.{begins_by, caused_by, reads_by}
+use Rattle.granit_chains.proofs.ChainLaws.{begins_by, caused_by, reads_by}
 use Rattle.granit_event.specs.Events.{plain_event}
 use Rattle.granit_error.specs.FaultKind.{NoMemory}
 use Rattle.granit_error.specs.OptionsData.{OptionsData}
@@ -10,8 +11,8 @@ use Rattle.granit_lexemes.specs.PlainEvent.{PlainEvent}
 use Rattle.granit_parser.proofs.TextLemmas.{given_behind, leads_front, leads_more, memory_or_not}
 use Rattle.granit_parser.specs.Alone.{BeginsAlone, CausedAlone, EndsAlone}
 use Rattle.granit_parser.specs.Parsing.{Next, LeadsTo}
-use Rattle.granit_led.proofs.ToldOnce.{told_alone}
-use Rattle.granit_led.specs.Alone.{TellsMoved, behind_first}
+use Rattle.granit_chains.proofs.ChainLaws.{told_alone}
+use Rattle.granit_chains.specs.Chains.{TellsMoved, behind_first}
 use Rattle.granit_shifted.specs.Shift.{Shift, moved_events, moved_fault_of}
 use Rattle.granit_sourced.specs.Giving.{GivesNext}
 use Rattle.granit_steps.specs.Steps.{StepState, next_event}

@@ -20,7 +20,7 @@ use Rattle.granit_parser.specs.Recovering.{seen_comment, seen_in, seen_other}
 use Rattle.granit_seen.specs.Seeing.{seen_kind}
 use Rattle.granit_calls.specs.Asking.{LookTells}
 use Rattle.granit_restart.proofs.AheadLaws.{look_is_ahead}
-use Rattle.granit_looking.proofs.EndLaws.{look_none}
+use Rattle.granit_calls.proofs.AskLaws.{look_none}
 use Rattle.granit_restart.specs.Ahead.{AheadOf, NoneComes, is_note}
 use Rattle.granit_restart.specs.Calls.{Calls, noted}
 use Rattle.granit_restart.specs.Following.{document_follows}

@@ -1,4 +1,6 @@
 -- A parser is where the machine's calls led: what calls give there, and where they leave it.
+pub use Rattle.granit_chains.proofs.ChainLaws.{looked_fit, once_less, reached_led}
+pub use Rattle.granit_chains.proofs.Telling.{leaves_most}
 use Rattle.std.proofs.Common.{◌≡◌, ◌⊎◌, inl, inr, ℕ, Bool, true, false, not, ◌||◌, is_some, Option, Some, None, Result}
 use Rattle.std.proofs.Common.{Ok, Err, refl, sym, ap, subst, ◌∙◌}
 use Rattle.std.specs.Prelude.{IfSome}
@@ -22,7 +24,7 @@ use Rattle.granit_parser.specs.Recovering.{notes_between, notes_over, PeeksIn, o
 use Rattle.granit_recovery.specs.Streams.{ReachedByCalls, calls_from}
 use Rattle.granit_restart.specs.Ahead.{not_ahead}
 use Rattle.granit_restart.specs.Calls.{Calls, given_by, next_call, noted}
-use Rattle.granit_sourced.proofs.CallLemmas.{call_going}
+pub use Rattle.granit_sourced.proofs.CallLemmas.{call_going}
 use Rattle.granit_sourced.specs.Giving.{EndsWith, GivesNext}
 use Rattle.granit_sourced.specs.Going.{Failed, GoesWithCalls, ReadsNext}
 use Rattle.granit_sourced.specs.Sources.{IfUnseen, MovesUnless, NeverRecovers, TellsError, TellsSource}

@@ -1,8 +1,8 @@
 -- Behind a recovery from a fault calls give what the text tells that is left.
 use Rattle.std.proofs.Common.{◌≡◌, Bool, List, [], ◌∷◌, ◌++◌, Some, None, Result, Ok, Err, inl, inr, ap, subst, ◌∙◌}
-use Rattle.granit_alone.proofs.CallSteps.{goes_by}
-use Rattle.granit_alone.proofs.FaultLaws.{recovery_gives}
-use Rattle.granit_alone.specs.Behind.{GivesOn, IsOpen}
+use Rattle.granit_chains.proofs.ChainLaws.{goes_by}
+use Rattle.granit_chains.proofs.ChainLaws.{recovery_gives}
+use Rattle.granit_chains.specs.Chains.{GivesOn, IsOpen}
 use Rattle.granit_base.specs.Place.{Unread}
 use Rattle.granit_error.specs.OptionsData.{OptionsData}
 use Rattle.granit_event.specs.Events.{plain_event}

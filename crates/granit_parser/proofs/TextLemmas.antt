@@ -1,11 +1,11 @@
 -- What the laws of the plain machine say of the calls that give a text's events one by one.
+pub use Rattle.granit_declared.proofs.ReadingSaid.{answer_declared, declared_answer}
+pub use Rattle.granit_declared.proofs.CauseSaid.{cause_declared, declared_cause}
 use Rattle.std.proofs.Common.{◌≡◌, ◌≢◌, ℕ, List, [], ◌∷◌, ◌++◌, Option, Some, None, Result, Ok, Err, ◌⊎◌, inl, inr}
 use Rattle.std.proofs.Common.{Bool, refl, sym, ap, ap₂, ◌∙◌, subst, append_assoc}
-use Rattle.granit_answers.proofs.CommentsCaused.{any_fault_caused}
-use Rattle.granit_answers.proofs.OneCause.{answer_reads}
+use Rattle.granit_chains.proofs.ChainLaws.{any_fault_caused}
+use Rattle.granit_chains.proofs.ChainLaws.{answer_reads}
 use Rattle.granit_declared.specs.DeclaredCause.{DeclaredCause}
-use Rattle.granit_declared.proofs.CauseSaid.{cause_declared}
-use Rattle.granit_declared.proofs.ReadingSaid.{answer_declared}
 use Rattle.granit_event.specs.Events.{plain_event}
 use Rattle.granit_error.specs.FaultKind.{FaultKind, NoMemory}
 use Rattle.granit_error.specs.OptionsData.{OptionsData}
@@ -14,13 +14,13 @@ use Rattle.granit_lexemes.specs.Outcome.{Fault, Fails}
 use Rattle.granit_lexemes.specs.PlainEvent.{PlainEvent}
 use Rattle.granit_machine.specs.Machine.{run}
 use Rattle.granit_parser.specs.Parsing.{Next, EndsText, LeadsTo, none_given, first_given}
-use Rattle.granit_read_answers.proofs.ParserSources.{run_none}
+pub use Rattle.granit_read_answers.proofs.ParserSources.{run_none}
 use Rattle.granit_sourced.specs.Giving.{GivesNext}
 use Rattle.granit_steps.specs.Levels.{BeginsStream, stream_levels}
 use Rattle.granit_steps.specs.Steps.{StepState, next_event, steps_start}
 use Rattle.granit_steps.specs.Told.{GivesEvents, gives_end, gives_event, gives_fault, told_of}
 use Rattle.granit_steps.proofs.StepLaws.{steps_give, steps_tell}
-use Rattle.granit_streams.proofs.StreamLaws.{run_is_stream, told_begins}
+use Rattle.granit_recovery.proofs.SkipLaws.{run_is_stream, told_begins}
 
 pub memory_or_not : (k : FaultKind) → (k ≡ NoMemory) ⊎ (k ≢ NoMemory)
 memory_or_not NoMemory = inl refl

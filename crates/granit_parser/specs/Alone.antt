@@ -1,6 +1,6 @@
 -- What calls give behind a boundary, by what the text that is left there tells alone.
 use Rattle.std.specs.Prelude.{◌≡◌, ◌⊎◌, ℕ, Bool, List, [], ◌∷◌, ◌++◌, Some, None, Ok, Err}
-pub use Rattle.granit_alone.specs.Alone.{BeginsAlone, CausedAlone, ReadsAlone, stream_start}
+pub use Rattle.granit_chains.specs.Chains.{BeginsAlone, CausedAlone, ReadsAlone, stream_start}
 use Rattle.granit_error.specs.FaultKind.{NoMemory}
 use Rattle.granit_error.specs.OptionsData.{OptionsData}
 use Rattle.granit_event.specs.Events.{plain_event}

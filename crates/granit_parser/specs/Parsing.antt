@@ -1,10 +1,11 @@
 -- What contracts see of a parser, and what its calls give.
+pub use Rattle.granit_sourced.specs.Sources.{IfUnseen, TellsSource, UnlessSource}
 use Rattle.std.specs.Prelude.{◌≡◌, ◌⊎◌, ℕ, Bool, true, false, List, [], ◌∷◌, ◌++◌, Option, Some, None, Ok, Err, ◌<◌}
 use Rattle.std.specs.Prelude.{IfSome}
 use Rattle.granit_base.specs.Counts.{last_count}
 use Rattle.granit_base.specs.Place.{Unread}
-use Rattle.granit_declared.specs.DeclaredCause.{DeclaredCause}
-use Rattle.granit_declared.specs.DeclaredReading.{DeclaredReading}
+pub use Rattle.granit_declared.specs.DeclaredCause.{DeclaredCause}
+pub use Rattle.granit_declared.specs.DeclaredReading.{DeclaredReading}
 use Rattle.granit_cursor.specs.Reading.{GoesOnward}
 use Rattle.granit_error.specs.FaultKind.{NoMemory, wants_memory}
 use Rattle.granit_error.specs.OptionsData.{OptionsData}
@@ -14,13 +15,14 @@ use Rattle.granit_input.specs.Origin.{Origin}
 pub use Rattle.granit_layers.specs.Turning.{Next}
 use Rattle.granit_lexemes.specs.PlainEvent.{PlainEvent}
 use Rattle.granit_receivers.specs.Kept.{IsKept}
-pub use Rattle.granit_sourced.specs.Gathering.{LeadsTo, none_given, first_given}
-use Rattle.granit_sourced.specs.Giving.{EndsWith, GivesNext}
-use Rattle.granit_sourced.specs.Sources.{IfUnseen, MovesUnless, TellsError, TellsSource}
+pub use Rattle.granit_sourced.specs.Gathering.{LeadsTo, first_given, none_given}
+use Rattle.granit_sourced.specs.Giving.{GivesNext}
+pub use Rattle.granit_sourced.specs.Giving.{EndsWith}
+use Rattle.granit_sourced.specs.Sources.{MovesUnless, TellsError}
 use Rattle.granit_sourced.specs.Waiting.{GivesAtOnce}
-use Rattle.granit_stepper.specs.Numbers.{RefusesNumber}
+pub use Rattle.granit_stepper.specs.Numbers.{RefusesNumber}
 use Rattle.granit_stepper.specs.Stepping as stepping
-pub use Rattle.granit_stepper.specs.Stepping.{Stepping, StandsIn}
+pub use Rattle.granit_stepper.specs.Stepping.{StandsIn, Stepping}
 use Rattle.granit_steps.specs.Levels.{IsStream, BeginsStream}
 use Rattle.granit_steps.specs.Steps.{StepState}
 use Rattle.granit_steps.specs.Told.{EventsTold}

@@ -1,7 +1,8 @@
 -- A parser between its calls, where the machine's calls lead: what contracts on recovery say.
+pub use Rattle.granit_chains.specs.Chains.{CallsBetween, ComesOnward, IsOpen, TellsOnce, event_given, fault_given}
+pub use Rattle.granit_chains.specs.Chains.{nothing_given, state_left}
 use Rattle.std.specs.Prelude.{◌≡◌, ◌⊎◌, ◌||◌, ◌&&◌, not, ℕ, suc, is_some, Bool, true, false, List, [], ◌∷◌, Option}
 use Rattle.std.specs.Prelude.{Some, None, Result, Ok, Err, IfOk}
-pub use Rattle.granit_alone.specs.Behind.{IsOpen}
 use Rattle.granit_base.specs.Place.{Unread}
 use Rattle.granit_cursor.specs.Reading.{GoesOnward, Reading}
 use Rattle.granit_error.specs.FaultKind.{NoMemory}
@@ -30,11 +31,14 @@ use Rattle.granit_restart.specs.Restart.{behind_fault}
 use Rattle.granit_restart.specs.Skipping as skipping
 use Rattle.granit_restart.specs.Skipping.{Ended, SkipEnd, Stops, skip_by_turns, skipped_fault, with_pending}
 use Rattle.granit_restart.specs.Turned.{Turned}
-use Rattle.granit_sourced.specs.Going.{Failed, FailsAt, GoesWithCalls, SeenNext}
-use Rattle.granit_sourced.specs.Sources.{IfUnseen, NeverRecovers, TellsSource}
+use Rattle.granit_sourced.specs.Going.{Failed, GoesWithCalls, SeenNext}
+pub use Rattle.granit_sourced.specs.Going.{FailsAt}
+use Rattle.granit_sourced.specs.Sources.{IfUnseen, TellsSource}
+pub use Rattle.granit_sourced.specs.Sources.{NeverRecovers}
 use Rattle.granit_stepper.specs.Holding.{held_follows}
 use Rattle.granit_stepper.specs.Numbers.{RefusesNumber}
-use Rattle.granit_stepper.specs.Recovering.{DropsOn, StopsAt, StopsBehind}
+use Rattle.granit_stepper.specs.Recovering.{DropsOn, StopsAt}
+pub use Rattle.granit_stepper.specs.Recovering.{StopsBehind}
 use Rattle.granit_stepper.specs.Stepping.{Stepping}
 use Rattle.granit_steps.specs.Steps.{StepState, next_event}
 

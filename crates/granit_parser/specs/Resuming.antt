@@ -1,7 +1,7 @@
 -- What calls give behind a recovery from a fault.
 use Rattle.std.specs.Prelude.{◌≡◌, ◌⊎◌, Bool, false, List, [], ◌∷◌, ◌++◌, Some, None, Ok, Err}
-use Rattle.granit_alone.specs.Behind.{GivesOn}
-use Rattle.granit_alone.specs.Lines.{CountsAt}
+use Rattle.granit_chains.specs.Chains.{GivesOn}
+use Rattle.granit_chains.specs.Chains.{CountsAt}
 use Rattle.granit_base.specs.Place.{Unread}
 use Rattle.granit_error.specs.FaultKind.{NoMemory}
 use Rattle.granit_error.specs.OptionsData.{OptionsData}
@@ -15,7 +15,7 @@ use Rattle.granit_restart.specs.Ahead.{AheadOf}
 use Rattle.granit_restart.specs.Calls.{Calls, next_call}
 use Rattle.granit_restart.specs.Recovery.{recover}
 use Rattle.granit_restart.specs.Skipping.{Stops}
-use Rattle.granit_led.specs.Stopping.{FaultFits}
+use Rattle.granit_chains.specs.Chains.{FaultFits}
 use Rattle.granit_stepper.specs.Numbers.{RefusesNumber}
 use Rattle.granit_steps.specs.Steps.{StepState}
 

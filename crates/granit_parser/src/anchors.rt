@@ -12,8 +12,8 @@ ghost use Rattle.granit_stepper.specs.Stepping.{StandsIn};
 ghost use Rattle.granit_steps.specs.Steps.{StepState};
 
 use crate::parser::Parser;
-use granit_input::BorrowedInput;
 use granit_calls::calls_go_by_turns;
+use granit_input::BorrowedInput;
 
 impl<'input, T: BorrowedInput<'input>> Parser<'input, T> {
     /// The number that the next anchor gets, held at the greatest one.

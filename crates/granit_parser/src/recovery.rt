@@ -22,10 +22,13 @@ ghost use Rattle.granit_stepper.specs.Holding.{held_follows};
 ghost use Rattle.granit_steps.specs.Steps.{StepState};
 
 use crate::parser::Parser;
+use granit_calls::{
+    a_comment_takes_room_where_recovery_asks, a_look_tells_where_recovery_asks, calls_go_by_turns,
+    nothing_changes_behind_the_end,
+};
 use granit_error::ScanError;
 use granit_event::Event;
 use granit_input::BorrowedInput;
-use granit_calls::{a_comment_takes_room_where_recovery_asks, a_look_tells_where_recovery_asks, calls_go_by_turns, nothing_changes_behind_the_end};
 use granit_seen::{Seen, ends, ends_stream, starts, tells};
 
 impl<'input, T: BorrowedInput<'input>> Parser<'input, T> {

@@ -9,8 +9,8 @@ ghost use Rattle.granit_restart.specs.Calls.{Calls};
 ghost use Rattle.granit_steps.specs.Steps.{StepState};
 
 use crate::parser::Parser;
-use granit_input::BorrowedInput;
 use granit_calls::calls_go_by_turns;
+use granit_input::BorrowedInput;
 
 impl<'input, T: BorrowedInput<'input>> Parser<'input, T> {
     /// Whether the handles of `%TAG` but `!` and `!!` stay over documents: sets the option `keep_tags` of this parser.

@@ -1,11 +1,12 @@
 -- Calls that tell of a document, one behind another, come to an end.
 use Rattle.std.proofs.Common.{◌≡◌, ◌⊎◌, inl, inr, ℕ, zero, suc, ◌+◌, ◌*◌, ◌<◌, ◌≤◌, Bool, true, false, ◌||◌}
 use Rattle.std.proofs.Common.{None, refl, sym, ap, subst, ◌∙◌, arith}
-use Rattle.granit_alone.proofs.FaultLaws.{reached_led}
+use Rattle.granit_parser.proofs.InLemmas.{reached_led}
 use Rattle.granit_base.specs.Place.{Unread}
-use Rattle.granit_chains.proofs.ChainLaws.{once_less}
-use Rattle.granit_chains.proofs.Telling.{leaves_most, told}
-use Rattle.granit_chains.specs.Chains.{state_left, TellsOnce}
+use Rattle.granit_parser.proofs.InLemmas.{once_less}
+use Rattle.granit_parser.proofs.InLemmas.{leaves_most}
+use Rattle.granit_parser.proofs.AloneLemmas.{told}
+use Rattle.granit_parser.specs.Recovering.{state_left, TellsOnce}
 use Rattle.granit_error.specs.OptionsData.{OptionsData}
 use Rattle.granit_input.specs.Origin.{Origin}
 use Rattle.granit_parser.specs.Parsing.{Parsing}

@@ -1,10 +1,10 @@
 -- Calls of a parser that tell of a document, in the calls of the machine.
 use Rattle.std.proofs.Common.{◌≡◌, ◌⊎◌, inl, inr, Bool, true, false, ◌||◌, is_some}
 use Rattle.std.proofs.Common.{Some, None, Result, Ok, Err, refl, sym, ap, subst, ◌∙◌}
-use Rattle.granit_alone.specs.Lines.{ComesOnward}
+use Rattle.granit_parser.specs.Recovering.{ComesOnward}
 use Rattle.granit_base.specs.Place.{Unread}
-use Rattle.granit_chains.proofs.Telling.{told}
-use Rattle.granit_chains.specs.Chains.{CallsBetween, event_given, fault_given, nothing_given, TellsOnce}
+use Rattle.granit_parser.proofs.AloneLemmas.{told}
+use Rattle.granit_parser.specs.Recovering.{CallsBetween, event_given, fault_given, nothing_given, TellsOnce}
 use Rattle.granit_error.specs.OptionsData.{OptionsData}
 use Rattle.granit_error.specs.Refused.{Refused}
 use Rattle.granit_event.specs.Events.{plain_event}
@@ -28,10 +28,10 @@ use Rattle.granit_restart.specs.Calls.{Calls, failing, given_by, GivenByCall, ne
 use Rattle.granit_restart.specs.Recovery.{recover, resumed}
 use Rattle.granit_restart.specs.Skipping.{Stops}
 use Rattle.granit_led.specs.Stopping.{FitBehind, looked_at}
-use Rattle.granit_sourced.proofs.CallLemmas.{call_going}
-use Rattle.granit_sourced.specs.Going.{FailsAt}
-use Rattle.granit_sourced.specs.Sources.{TellsSource}
-use Rattle.granit_stepper.specs.Numbers.{RefusesNumber}
+use Rattle.granit_parser.proofs.InLemmas.{call_going}
+use Rattle.granit_parser.specs.Recovering.{FailsAt}
+use Rattle.granit_parser.specs.Parsing.{TellsSource}
+use Rattle.granit_parser.specs.Parsing.{RefusesNumber}
 use Rattle.granit_steps.specs.Steps.{next_event, StepState}
 
 reached_by : (o : OptionsData) (c d : Calls) (x : GivenByCall) → ReachedByCalls o c → next_call o c ≡ (x, d)

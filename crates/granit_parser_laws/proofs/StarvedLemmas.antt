@@ -11,9 +11,10 @@ use Rattle.granit_parser.specs.Recovering.{GivesSeen, SeenBy}
 use Rattle.granit_parser_laws.specs.Again.{ProceedsTo, SeesEvent, TakesEvent}
 use Rattle.granit_receivers.specs.Kept.{GivesAgain}
 use Rattle.granit_restart.specs.Calls.{Calls}
-use Rattle.granit_sourced.specs.Giving.{EndsWith}
-use Rattle.granit_sourced.specs.Sources.{IfUnseen, NeverRecovers}
-use Rattle.granit_stepper.specs.Stepping.{Stepping}
+use Rattle.granit_parser.specs.Parsing.{EndsWith}
+use Rattle.granit_parser.specs.Parsing.{IfUnseen}
+use Rattle.granit_parser.specs.Recovering.{NeverRecovers}
+use Rattle.granit_parser.specs.Parsing.{Stepping}
 
 memory_or_other : (k : FaultKind) → (k ≡ NoMemory) ⊎ (k ≡ NoMemory → ⊥)
 memory_or_other NoMemory = inl refl

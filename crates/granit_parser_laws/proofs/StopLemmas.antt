@@ -2,9 +2,9 @@
 use Rattle.std.proofs.Common.{◌≡◌, ◌⊎◌, inl, inr, Bool, true, false, ◌||◌, is_some, Option, Some, None, Ok, Err}
 use Rattle.std.proofs.Common.{refl, sym, ap, subst, ◌∙◌}
 use Rattle.std.specs.Prelude.{if◌then◌else◌}
-use Rattle.granit_alone.specs.Lines.{ComesOnward}
+use Rattle.granit_parser.specs.Recovering.{ComesOnward}
 use Rattle.granit_base.specs.Place.{Unread}
-use Rattle.granit_chains.proofs.ChainLaws.{looked_fit}
+use Rattle.granit_parser.proofs.InLemmas.{looked_fit}
 use Rattle.granit_cursor.specs.Reading.{Reading}
 use Rattle.granit_error.specs.OptionsData.{OptionsData}
 use Rattle.granit_event.specs.Events.{plain_event}
@@ -19,9 +19,9 @@ use Rattle.granit_restart.specs.Recovery.{looked_by}
 use Rattle.granit_restart.specs.Restart.{behind_fault}
 use Rattle.granit_restart.specs.Skipping.{Ended, Failed, skip_by_turns, SkipEnd, Stops}
 use Rattle.granit_led.specs.Stopping.{DropFits, EndFits, FitBehind, looked_at, StopsFit}
-use Rattle.granit_sourced.proofs.CallLemmas.{call_going}
-use Rattle.granit_stepper.specs.Recovering.{StopsBehind}
-use Rattle.granit_stepper.specs.Stepping.{Stepping}
+use Rattle.granit_parser.proofs.InLemmas.{call_going}
+use Rattle.granit_parser.specs.Recovering.{StopsBehind}
+use Rattle.granit_parser.specs.Parsing.{Stepping}
 use Rattle.granit_steps.specs.Steps.{next_event, StepState}
 
 -- ---- open or closed

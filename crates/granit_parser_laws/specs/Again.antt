@@ -2,7 +2,7 @@
 -- the clauses of these calls say.
 use Rattle.std.specs.Prelude.{◌≡◌, ◌⊎◌, ◌<◌, ℕ, suc, Bool, true, false, Some, None, Result, Ok, IfOk, IfSome}
 use Rattle.granit_base.specs.Place.{Unread}
-use Rattle.granit_chains.specs.Chains.{TellsOnce, state_left}
+use Rattle.granit_parser.specs.Recovering.{TellsOnce, state_left}
 use Rattle.granit_error.specs.OptionsData.{OptionsData}
 use Rattle.granit_error.specs.Refused.{Refused}
 use Rattle.granit_input.specs.Origin.{Origin}
@@ -13,8 +13,9 @@ use Rattle.granit_recovery.specs.Streams.{ReachedByCalls}
 use Rattle.granit_restart.specs.Calls.{Calls, next_call}
 use Rattle.granit_restart.specs.Recovery as recovery
 use Rattle.granit_receivers.specs.Kept.{GivesAgain}
-use Rattle.granit_sourced.specs.Giving.{EndsWith}
-use Rattle.granit_sourced.specs.Sources.{IfUnseen, NeverRecovers, TellsSource, UnlessSource}
+use Rattle.granit_parser.specs.Parsing.{EndsWith}
+use Rattle.granit_parser.specs.Parsing.{IfUnseen, TellsSource, UnlessSource}
+use Rattle.granit_parser.specs.Recovering.{NeverRecovers}
 
 -- ---- what clauses say
 

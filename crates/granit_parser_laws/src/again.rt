@@ -1,7 +1,7 @@
 //! Calls of `proceed_next_document` that tell of a document one behind another come to an end.
 ghost use Rattle.std.specs.Prelude.{◌≡◌, ◌⊎◌, ◌+◌, ◌*◌, ◌≤◌, ℕ, suc, Bool, true, false, is_some, None};
-ghost use Rattle.granit_alone.specs.Lines.{ComesOnward};
-ghost use Rattle.granit_chains.specs.Chains.{state_left};
+ghost use Rattle.granit_parser.specs.Recovering.{ComesOnward};
+ghost use Rattle.granit_parser.specs.Recovering.{state_left};
 ghost use Rattle.granit_cursor.specs.Reading.{Reading};
 ghost use Rattle.granit_error.specs.OptionsData.{OptionsData};
 ghost use Rattle.granit_lexemes.specs.Here.{Here, text_len};
@@ -14,8 +14,8 @@ ghost use Rattle.granit_restart.specs.Calls.{Calls};
 ghost use Rattle.granit_restart.specs.Skipping.{Stops};
 ghost use Rattle.granit_led.specs.Stopping.{FitBehind, looked_at};
 
-use granit_input::BorrowedInput;
 use granit_calls::an_open_call_gives_something;
+use granit_input::BorrowedInput;
 
 /// Where calls led and recovery wasn't refused, the places at which refused reads stopped, as `proceed_next_document`
 /// tells them, are what the laws on recovery ask for, whether the next event was looked at or not.

@@ -1,4 +1,6 @@
 -- The place that the reader keeps is counted on the whole text.
+pub use Rattle.granit_reading.proofs.ReadAnswers.{read_answers}
+pub use Rattle.granit_reading.proofs.Deciding.{layout_is}
 use Rattle.std.proofs.Common.{◌≡◌, ℕ, zero, suc, ◌+◌, ◌-◌, ◌<◌, ◌≤◌, ◌==◌, ◌&&◌, Bool, true, false, List, [], ◌∷◌, ◌++◌}
 use Rattle.std.proofs.Common.{length, take, drop, refl, sym, ap, ap₂, ◌∙◌, subst, arith, add-one, length-append}
 use Rattle.std.proofs.Common.{append_assoc, Some, ◌⊎◌, inl, inr}

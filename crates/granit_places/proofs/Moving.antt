@@ -18,7 +18,7 @@ use Rattle.granit_machine.specs.LexemeSort.{PlainSign, LexemeSort, TextEnd, Star
 use Rattle.granit_machine.specs.LexemeSort.{DirectiveSign, Placed}
 use Rattle.granit_machine.specs.PossibleKeys.{top_key, is_allowed}
 use Rattle.granit_machine.specs.Reader.{noded}
-use Rattle.granit_termination.proofs.LexLengths.{noded-flow}
+use Rattle.granit_reading.proofs.ReadingLaw.{noded-flow}
 use Rattle.granit_language.specs.Before.{behind_colon, behind_question_sign, closed_for, run_for, behind}
 use Rattle.granit_language.specs.Fitting.{OfNode, Opens, Closes, Keyed, Other, role_of, outer_keys, begins_block_entry}
 use Rattle.granit_language.specs.Fitting.{stands_as_entry}

@@ -22,7 +22,7 @@ use Rattle.granit_lexemes.specs.QuotedExtent.{Trails}
 use Rattle.granit_lexemes.specs.QuotedExtent as quoted
 use Rattle.granit_lexemes.specs.QuotedScalar.{QuotedRead, quote_char}
 use Rattle.granit_base.specs.Place.{Mark, first}
-use Rattle.granit_blocks.proofs.BlockSpans.{header_reaches, front_reaches, body_reaches}
+use Rattle.granit_reading.proofs.ReadingLaw.{header_reaches, front_reaches, body_reaches}
 use Rattle.granit_machine.specs.Gaps.{over_break_if}
 use Rattle.granit_machine.specs.Laid.{Laid, is_in_flow, block_column}
 use Rattle.granit_machine.specs.PossibleKeys.{layout_of}

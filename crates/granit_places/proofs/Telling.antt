@@ -1,4 +1,8 @@
 -- What one read gives of the lexeme that stands, and what it leaves.
+pub use Rattle.granit_reading.proofs.SortAnswers.{sort_answers}
+pub use Rattle.granit_reading.proofs.ReadAnswers.{by_answers}
+pub use Rattle.granit_reading.proofs.ReadingLaw.{ReadsBy, lexed, read-is, stops_there}
+pub use Rattle.granit_reading.proofs.Answering.{Answers}
 use Rattle.std.proofs.Common.{◌≡◌, ℕ, ◌||◌, Bool, true, false, List, [], ◌∷◌, Option, Some, None, ◌⊎◌, inl, inr, refl}
 use Rattle.std.proofs.Common.{sym, ap, ◌∙◌, subst}
 use Rattle.granit_base.specs.Place.{Mark}

@@ -10,10 +10,11 @@ use Rattle.granit_lexemes.specs.Outcome.{Fault, ◌>>=◌}
 use Rattle.granit_lexemes.specs.Pieces.{with_front}
 use Rattle.granit_lexemes.specs.PlainExtent.{over}
 use Rattle.granit_lexemes.specs.Tags.{UriState, decoded, tag_ends, behind_verbatim, behind_handle, short_tag, tag_at}
-use Rattle.granit_names.proofs.Runs.{text_over}
-use Rattle.granit_names.proofs.TagLaw.{no_alpha_nul}
+use Rattle.granit_handles.proofs.VersionLaw.{text_over}
+use Rattle.granit_handles.proofs.HandleOnce.{no_alpha_nul}
 use Rattle.granit_handles.proofs.VersionLaw.{all_over}
-use Rattle.granit_scalars.proofs.Stepping.{seen, over-append}
+use Rattle.granit_handles.proofs.TagFronts.{seen}
+use Rattle.granit_handles.proofs.TagFronts.{over-append}
 use Rattle.granit_properties.specs.TagCode.{verbatim_rest, named_rest, short_rest}
 
 -- behind the word that follows a `!`

@@ -45,7 +45,7 @@ use Rattle.granit_machine.specs.StreamSteps.{outside}
 use Rattle.granit_machine.specs.TokenSort.{TokenSort, OfStream, Token, token_of, token_sort, token_column}
 use Rattle.granit_machine.specs.TokenSort.{is_bare_colon, is_dash_token, is_in_column, is_key_token}
 use Rattle.granit_machine.specs.TokenSort.{begins_node, begins_pair, ends_entry, ends_frame}
-use Rattle.granit_reading.proofs.WholeLaw.{lexed_whole}
+pub use Rattle.granit_reading.proofs.WholeLaw.{lexed_whole}
 use Rattle.granit_quiet.specs.CommentEvents.{only_comments, held_of, comment_events}
 use Rattle.granit_quiet.specs.Quiet.{asking}
 use Rattle.granit_quiet.proofs.CommentLaws.{Lexed, answer_to, run_same}

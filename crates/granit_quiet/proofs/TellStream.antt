@@ -1,4 +1,7 @@
 -- What is fed with items tells their comments, in order.
+pub use Rattle.granit_reading.proofs.WholeLaw.{all_read_whole, one_whole}
+pub use Rattle.granit_reading.proofs.Deciding.{flow_decided}
+pub use Rattle.granit_reading.proofs.ReadingLaw.{lexed}
 use Rattle.std.proofs.Common.{◌≡◌, ℕ, ◌==◌, ◌||◌, ◌&&◌, not, Bool, true, false, List, [], ◌∷◌, ◌++◌, Option, Some, None}
 use Rattle.std.proofs.Common.{Ok, Err, refl, sym, ap, subst, ◌∙◌, append_assoc}
 use Rattle.std.specs.Prelude.{if◌then◌else◌}
@@ -13,7 +16,7 @@ use Rattle.granit_lexemes.specs.Pieces.{with_front, pieces}
 use Rattle.granit_lexemes.specs.PlainEvent as events
 use Rattle.granit_lexemes.specs.PlainEvent.{PlainEvent, PlainVersion, event_at}
 use Rattle.granit_lexemes.specs.Source.{Source}
-use Rattle.granit_scalars.proofs.Turning.{Carries, pieces_hold}
+use Rattle.granit_reading.proofs.WholeLaw.{Carries, pieces_hold}
 use Rattle.granit_machine.proofs.ClosingLemmas.{close_turn-Shortens, FeedGiven}
 use Rattle.granit_machine.specs.Closing.{is_behind_question, ends_top, token_start, end_top, close_turn, depth, close}
 use Rattle.granit_machine.specs.Entries.{lookup_text}

@@ -1,4 +1,7 @@
 -- What is left where no comment is told: of events, of the parser's state, and of the options.
+pub use Rattle.granit_language.specs.Counting.{CountedHere}
+pub use Rattle.granit_language.specs.Reached.{ReadRefused, Reads}
+pub use Rattle.granit_language.specs.CommentRows.{AreComments, RowTooLong, tail_comments, up_to}
 use Rattle.std.specs.Prelude.{ℕ, Bool, not, List, Option, Some, None}
 use Rattle.std.specs.List.{filter}
 use Rattle.granit_error.specs.OptionsData.{OptionsData}

@@ -14,7 +14,7 @@ use Rattle.granit_lexemes.specs.Moves.{steps}
 use Rattle.granit_lexemes.specs.QuotedScalar.{is_closing, is_kept, is_literal, may_trail}
 use Rattle.granit_lexemes.specs.QuotedScalar.{behind_quoted, quoted_read, quoted_scalar, quoted_tail}
 use Rattle.granit_lexemes.proofs.HereLemmas.{past_stops, step_lends, step_text}
-use Rattle.granit_scalars.proofs.Comments.{steps_text}
+pub use Rattle.granit_scalars.proofs.Comments.{steps_text}
 use Rattle.granit_cursor.proofs.QuotedMoves.{before_closing, behind_opening, over_quoted, quoted_steps, words_fit}
 use Rattle.granit_lexemes.specs.Basics.{owned}
 use Rattle.granit_quoted.specs.QuotedCode.{kept_chars, nothing_quoted, passed_scalar, taken_scalar}

@@ -35,7 +35,7 @@ use Rattle.granit_lexemes.proofs.PieceLemmas.{pieces_fails}
 use Rattle.granit_scalars.proofs.CommentCauses.{spoiled_once}
 use Rattle.granit_scalars.proofs.Comments.{comment_reads, not_both}
 use Rattle.granit_quoted_laws.proofs.EscapeCauses.{wrong_escape}
-use Rattle.granit_scalars.proofs.Nameless.{comment_none}
+pub use Rattle.granit_scalars.proofs.Nameless.{comment_none}
 use Rattle.granit_scalars.proofs.PlainReads.{neither_gap}
 use Rattle.granit_scalars.proofs.QuotedEscapes.{over_text}
 use Rattle.granit_quoted_laws.proofs.QuotedForms.{QuotedForm, FrontStands, FormStands, form_value}

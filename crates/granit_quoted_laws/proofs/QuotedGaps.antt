@@ -19,10 +19,12 @@ use Rattle.granit_lexemes.specs.QuotedScalar.{quoted_turn, quoted_len, quoted_re
 use Rattle.granit_lexemes.proofs.PieceLemmas.{with_front-nil, pieces_more}
 use Rattle.granit_scalars.proofs.PlainKept.{one_more}
 use Rattle.granit_scalars.proofs.QuotedEscapes.{over_text}
-use Rattle.granit_quoted_laws.proofs.QuotedKept.{StateIs, is_line_blank, is_indent_blank, is_first_break, is_further_break}
+use Rattle.granit_quoted_laws.proofs.QuotedKept.{StateIs, is_line_blank, is_indent_blank, is_first_break}
+use Rattle.granit_quoted_laws.proofs.QuotedKept.{is_further_break}
 use Rattle.granit_scalars.proofs.QuotedTurns.{tab_meets, tests_at, turn_on_tests, turn_is}
 use Rattle.granit_scalars.proofs.QuotedTurns.{quoted_shortens}
-use Rattle.granit_scalars.proofs.Stepping.{over-append, seen_as, column_on, broken}
+use Rattle.granit_scalars.proofs.Stepping.{over-append, seen_as}
+pub use Rattle.granit_scalars.proofs.Stepping.{broken, column_on}
 
 -- ---- a turn over a blank, and over a break
 

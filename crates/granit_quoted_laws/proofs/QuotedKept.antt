@@ -19,7 +19,8 @@ use Rattle.granit_lexemes.proofs.HereLemmas.{not_empty}
 use Rattle.granit_scalars.proofs.PlainKept.{one_more_blank, over_one, text_one, one_more}
 use Rattle.granit_scalars.proofs.PlainTurns.{seen_blank}
 use Rattle.granit_scalars.proofs.QuotedTurns.{tab_meets}
-use Rattle.granit_scalars.proofs.Stepping.{over-append, Seen, seen, column_on, broken, second_of, is_break_nul}
+use Rattle.granit_scalars.proofs.Stepping.{over-append, Seen, seen, column_on, broken, second_of}
+pub use Rattle.granit_scalars.proofs.Stepping.{is_break_nul}
 
 -- ---- one more blank, and one more break
 

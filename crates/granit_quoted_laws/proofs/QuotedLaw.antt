@@ -1,4 +1,7 @@
 -- The plain function answers the quoted scalar that stands there, or refuses it with its cause.
+pub use Rattle.granit_scalars.proofs.PlainOnce.{is_answered, is_refused, is_standing}
+pub use Rattle.granit_scalars.proofs.Comments.{with_note}
+pub use Rattle.granit_scalars.proofs.CommentCauses.{comment_wrong}
 use Rattle.std.proofs.Common.{◌≡◌, ℕ, ◌==◌, Bool, true, false, List, [], ◌∷◌, ◌++◌, Result, Ok, Err, refl, ap, ap₂, ◌∙◌}
 use Rattle.std.proofs.Common.{subst}
 use Rattle.granit_base.specs.Written.{Written}
@@ -15,7 +18,7 @@ use Rattle.granit_quoted_laws.proofs.QuotedForms.{QuotedForm, FrontStands, FormS
 use Rattle.granit_quoted_laws.proofs.QuotedKept.{quoted_fresh}
 use Rattle.granit_quoted_laws.proofs.QuotedReads.{QuotedFinds, up_to_quote, QuotedReads, quoted_reads}
 use Rattle.granit_quoted_laws.proofs.QuotedTail.{TailReads, tail_reads}
-use Rattle.granit_scalars.proofs.Stepping.{seen}
+pub use Rattle.granit_scalars.proofs.Stepping.{seen}
 use Rattle.granit_quoted_laws.proofs.Verbatim.{text_is}
 
 abbrev pub QuotedAnswered : Bool → LayoutData → Here → Result (QuotedRead × Here) Fault → Type 0

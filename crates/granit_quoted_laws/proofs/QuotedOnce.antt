@@ -12,11 +12,11 @@ use Rattle.granit_lexemes.specs.PlainExtent.{over}
 use Rattle.granit_lexemes.specs.QuotedExtent.{quoted_end, quoted_value, AnswersQuoted}
 use Rattle.granit_lexemes.specs.QuotedScalar.{QuotedState, QuotedRead, quote_char, between_quoted, quoted_at}
 use Rattle.granit_lexemes.specs.QuotedScalar.{quoted_read, quoted_text, quoted_tail, quoted_scalar, quoted_rest}
-use Rattle.granit_scalars.proofs.QuotedEscapes.{over_text}
+pub use Rattle.granit_scalars.proofs.QuotedEscapes.{over_text}
 use Rattle.granit_quoted_laws.proofs.QuotedForms.{QuotedForm, FormStands, form_value}
 use Rattle.granit_quoted_laws.proofs.QuotedRuns.{inside_runs, closes}
 use Rattle.granit_quoted_laws.proofs.QuotedTail.{tail_answers}
-use Rattle.granit_scalars.proofs.Stepping.{over-append}
+pub use Rattle.granit_scalars.proofs.Stepping.{over-append}
 use Rattle.granit_quoted_laws.proofs.Verbatim.{text_is}
 
 abbrev pub run : Bool → LayoutData → Here → Result (List ℕ × QuotedState) Fault

@@ -26,7 +26,8 @@ use Rattle.granit_lexemes.specs.QuotedScalar.{quoted_piece, quoted_content, quot
 use Rattle.granit_scalars.proofs.PlainReads.{not_right}
 use Rattle.granit_scalars.proofs.QuotedEscapes.{ReadsEscape, reads_escape}
 use Rattle.granit_quoted_laws.proofs.QuotedForms.{QuotedForm}
-use Rattle.granit_quoted_laws.proofs.QuotedKept.{StateIs, QuotedStays, quoted_fresh, between_is, QuotedGoes, quoted_blank}
+use Rattle.granit_quoted_laws.proofs.QuotedKept.{StateIs, QuotedStays, quoted_fresh, between_is, QuotedGoes}
+use Rattle.granit_quoted_laws.proofs.QuotedKept.{quoted_blank}
 use Rattle.granit_quoted_laws.proofs.QuotedKept.{quoted_break}
 use Rattle.granit_scalars.proofs.QuotedTurns.{closing_is, tab_meets, strict_meets, loose_meets, mark_meets, Placed}
 use Rattle.granit_scalars.proofs.QuotedTurns.{QuotedTurned, past_a_blank, at_a_tab, past_a_break, at_strict, at_loose}
@@ -34,7 +35,7 @@ use Rattle.granit_scalars.proofs.QuotedTurns.{at_a_mark, at_the_end, at_a_charac
 use Rattle.granit_scalars.proofs.QuotedTurns.{quoted_turned, ContentTurned, at_a_doubled, at_itself, at_escaped_break}
 use Rattle.granit_scalars.proofs.QuotedTurns.{at_an_escape, content_turned, seen_there, quoted_shortens}
 use Rattle.granit_scalars.proofs.Stepping.{over-append, Seen, seen_as, second_of}
-use Rattle.granit_scalars.proofs.Turning.{Carries, pieces_hold}
+pub use Rattle.granit_scalars.proofs.Turning.{Carries, pieces_hold}
 
 -- the rest of a scalar, behind content that ends here
 pub record QuotedFinds (single : Bool) (at : LayoutData) (escaped : Bool) (behind : Here)

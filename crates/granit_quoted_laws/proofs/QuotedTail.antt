@@ -22,7 +22,7 @@ use Rattle.granit_lexemes.specs.QuotedExtent.{comment as wrong_comment, characte
 use Rattle.granit_lexemes.specs.QuotedScalar.{QuotedRead, quoted_read, asked_comment, trailing_kind, may_trail}
 use Rattle.granit_lexemes.specs.QuotedScalar.{behind_quoted, quoted_tail}
 use Rattle.granit_lexemes.proofs.HereLemmas.{past_goes, past_stops, stepped_text}
-use Rattle.granit_scalars.proofs.Comments.{comment_reads, comment_answered}
+pub use Rattle.granit_scalars.proofs.Comments.{comment_answered, comment_reads}
 use Rattle.granit_scalars.proofs.QuotedEscapes.{over_text}
 use Rattle.granit_scalars.proofs.QuotedTurns.{seen_there}
 

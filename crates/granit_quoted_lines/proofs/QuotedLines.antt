@@ -31,7 +31,8 @@ use Rattle.granit_scalars.proofs.Comments.{none_dropped}
 use Rattle.granit_scalars.proofs.PlainReads.{neither_gap}
 use Rattle.granit_quoted_laws.proofs.QuotedFolding.{swap, literal_gap, blanks_are as blanks_of}
 use Rattle.granit_quoted_laws.proofs.QuotedRuns.{no_break_behind, quote_no_gap, backslash_no_gap}
-use Rattle.granit_quoted_lines.specs.QuotedLines.{QuotedItem, Blank, Shown, Joins, Break, escape_by, escape_of, number_by}
+use Rattle.granit_quoted_lines.specs.QuotedLines.{QuotedItem, Blank, Shown, Joins, Break, escape_by, escape_of}
+use Rattle.granit_quoted_lines.specs.QuotedLines.{number_by}
 use Rattle.granit_quoted_lines.specs.QuotedLines.{front_by, front, items}
 use Rattle.granit_quoted_lines.specs.QuotedLines.{in_first_line, item_lines, before_kept, drop_end}
 use Rattle.granit_quoted_lines.specs.QuotedLines.{trimmed_behind, lines_trimmed, decoded_lines}

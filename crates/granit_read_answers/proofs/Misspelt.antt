@@ -1,4 +1,6 @@
 -- What has a cause inside a tag, a quoted scalar or a directive is refused with exactly that, and so is each cause.
+pub use Rattle.granit_reading.proofs.WholeLaw.{all_read_whole, lexed_whole, one_whole}
+pub use Rattle.granit_reading.proofs.ReadingLaw.{lexed}
 use Rattle.std.proofs.Common.{◌≡◌, Bool, true, false, ◌&&◌, List, sym, ap, ap₂, ◌∙◌, subst, inl, inr}
 use Rattle.std.proofs.lemmas.Bool.{cond-false}
 use Rattle.granit_base.specs.Place.{Mark}
@@ -21,7 +23,7 @@ use Rattle.granit_machine.specs.ReaderState.{ReaderState}
 use Rattle.granit_language.specs.Before.{freshened, with_run, in_front}
 use Rattle.granit_language.specs.Reached.{Reads, ReadMisspelt, ReadRefused}
 use Rattle.granit_language.specs.Refusing.{Misspells, in_tag, in_quoted, MisspellsSort, of_sign, in_directive}
-use Rattle.granit_directive_laws.proofs.FirstLaw.{directive_cause_refused}
+use Rattle.granit_reading.proofs.ReadAnswers.{directive_cause_refused}
 use Rattle.granit_names.proofs.TagCauses.{tag_cause_refused}
 use Rattle.granit_reading.proofs.Deciding.{rejects, outside_block_decided, layout_same}
 use Rattle.granit_reading.proofs.GapAnswers.{gap_answers}
@@ -30,7 +32,7 @@ use Rattle.granit_reading.proofs.ReadAnswers.{fresh_answers, read_answers}
 use Rattle.granit_reading.proofs.ReadingLaw.{run_flow, run_columns}
 use Rattle.granit_read_answers.proofs.Refused.{Fails, fails_then, fault_kind, is_read, stopped_refused}
 use Rattle.granit_reading.proofs.SortAnswers.{sort_answers}
-use Rattle.granit_quoted_laws.proofs.QuotedCauses.{quoted_cause_refused}
+use Rattle.granit_reading.proofs.GapAnswers.{quoted_cause_refused}
 
 module _ (o : OptionsData) (ends : Bool) (h : Here) (l : Laid) where
   misspelt_sign : {kind : FaultKind} {m : Mark} (sort : PlacedSort) → Misspells o h (with_run sort h l) sort kind m

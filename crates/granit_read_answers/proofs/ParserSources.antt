@@ -41,7 +41,7 @@ use Rattle.granit_machine.specs.TokenSort.{TokenSort, BeginsKey, BeginsNode, Que
 use Rattle.granit_machine.specs.TokenSort.{CommaToken, SequenceCloser, MappingCloser, Token, begins_node, begins_pair}
 use Rattle.granit_machine.specs.TokenSort.{is_dash_token, token_column, is_in_column, is_right_of}
 use Rattle.granit_machine.proofs.ClosingLemmas.{close_turn-Shortens}
-use Rattle.granit_reading.proofs.ReadingLaw.{lex_answers}
+pub use Rattle.granit_reading.proofs.ReadingLaw.{lex_answers}
 use Rattle.granit_read_answers.proofs.Sources.{Nameless, lex_none}
 
 -- ---- nodes

@@ -29,9 +29,10 @@ use Rattle.granit_scalars.proofs.Comments.{comment_reads}
 use Rattle.granit_scalars.proofs.PlainOnce.{plain_cause_refused}
 use Rattle.granit_base.specs.PlainContent.{is_content}
 use Rattle.granit_lexemes.specs.PlainExtent.{RefusesPlain}
-use Rattle.granit_quoted_laws.proofs.QuotedOnce.{quoted_is_answered}
-use Rattle.granit_blocks.proofs.BlockCauses.{in_comment_fails, cause_refused}
-use Rattle.granit_blocks.proofs.BlockHeads.{tail_is, tail_touched}
+use Rattle.granit_reading.proofs.LexemeAnswers.{quoted_is_answered}
+use Rattle.granit_reading.proofs.GapAnswers.{in_comment_fails, cause_refused}
+use Rattle.granit_reading.proofs.LexemeAnswers.{tail_is}
+use Rattle.granit_reading.proofs.GapAnswers.{tail_touched}
 use Rattle.granit_names.proofs.NameLaw.{name_run}
 use Rattle.granit_machine.specs.Columns.{refuse_column, entered, closed_at, ends_at}
 use Rattle.granit_machine.specs.FlowLexemes.{opener, closes, closer_by, comma}
@@ -53,7 +54,7 @@ use Rattle.granit_machine.specs.Reader.{noded, lexeme_of, is_strict_outside, lex
 use Rattle.granit_machine.specs.Reader.{read_whole, read}
 use Rattle.granit_machine.specs.ReaderState.{ReaderState, Read, sign_lexeme, tailed, refuse_open}
 use Rattle.granit_machine.specs.StreamLexemes.{end_mark_up_to}
-use Rattle.granit_termination.proofs.LexLengths.{noded-flow}
+use Rattle.granit_reading.proofs.ReadingLaw.{noded-flow}
 use Rattle.granit_machine.proofs.SortLemmas.{plain_sign-content}
 use Rattle.granit_language.specs.Allowed.{outside, TooMany, EntryFits}
 use Rattle.granit_language.specs.Before.{freshened, with_run, in_front}

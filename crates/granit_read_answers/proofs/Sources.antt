@@ -15,11 +15,11 @@ use Rattle.granit_lexemes.specs.Tail.{tail_at}
 use Rattle.granit_scalars.proofs.Nameless.{IsNameless, ok_none, err_none, then_none, if_none, comment_none, plain_none}
 use Rattle.granit_scalars.proofs.Nameless.{quoted_none}
 use Rattle.granit_scalars.proofs.Turning.{Carries, pieces_hold}
-use Rattle.granit_blocks.proofs.BlockHeads.{TailReads, tail_reads}
-use Rattle.granit_blocks.proofs.BlockLaw.{block_refused}
+use Rattle.granit_reading.proofs.Gapping.{TailReads, tail_reads}
+use Rattle.granit_reading.proofs.Lexemes.{block_refused}
 use Rattle.granit_names.proofs.NameLaw.{name_refused}
 use Rattle.granit_names.proofs.TagLaw.{tag_refused}
-use Rattle.granit_directive_laws.proofs.LineLaw.{whole_refused}
+use Rattle.granit_reading.proofs.ReadAnswers.{whole_refused}
 use Rattle.granit_machine.specs.Columns.{refuse_column, closed_at, ends_at}
 use Rattle.granit_machine.specs.FlowLexemes.{opener, closes, closer_by, comma}
 use Rattle.granit_machine.specs.Gaps.{leading_tab, refuse_tab_at, refuse_tab, begins_gap, past_gap, goes_on_behind}
@@ -44,7 +44,7 @@ use Rattle.granit_machine.specs.PossibleKeys.{without_stale, layout_of}
 use Rattle.granit_machine.specs.Reader.{noded, lexeme_of, is_strict_outside, lexeme_in_column, lexeme_by, read_behind}
 use Rattle.granit_machine.specs.Reader.{read, LexState, is_end, behind_read, lex_turn, lex_len}
 use Rattle.granit_machine.specs.Lexing.{lex_start, lex}
-use Rattle.granit_termination.proofs.LexLengths.{lex_turn-Shortens}
+use Rattle.granit_reading.proofs.WholeLaw.{lex_turn-Shortens}
 use Rattle.granit_lexemes.specs.Pieces.{with_front}
 use Rattle.granit_machine.specs.ReaderState.{ReaderState, Read, tailed, refuse_open}
 use Rattle.granit_machine.specs.StreamLexemes.{end_mark_up_to}

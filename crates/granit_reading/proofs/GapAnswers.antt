@@ -1,4 +1,6 @@
 -- What stands between lexemes and behind them is what the reader gives.
+pub use Rattle.granit_blocks.proofs.BlockHeads.{quoted_cause_refused, tail_touched}
+pub use Rattle.granit_blocks.proofs.BlockCauses.{cause_refused, in_comment_fails}
 use Rattle.std.proofs.Common.{◌≡◌, ℕ, ◌≤◌, ◌==◌, ◌&&◌, Bool, true, false, List, [], ◌∷◌, length, Option, Some, None, Ok}
 use Rattle.std.proofs.Common.{refl, sym, ap, ap₂, ◌∙◌, arith}
 use Rattle.std.specs.Prelude.{nat_lt}
@@ -14,7 +16,7 @@ use Rattle.granit_lexemes.specs.LayoutData.{is_left}
 use Rattle.granit_lexemes.specs.Moves.{past_prefix_mark}
 use Rattle.granit_lexemes.specs.Outcome.{◌>>=◌}
 use Rattle.granit_lexemes.proofs.HereLemmas.{past_goes, past_stops}
-use Rattle.granit_scalars.proofs.Comments.{comment_answered}
+use Rattle.granit_blocks.proofs.BlockHeads.{comment_answered}
 use Rattle.granit_termination.proofs.LengthLemmas.{step-less}
 use Rattle.granit_termination.proofs.ReadLengths.{past_prefix_mark-less}
 use Rattle.granit_machine.specs.Gaps.{leading_tab, refuse_tab_at, refuse_tab, at_prefix_mark, begins_gap, over_gap_char}

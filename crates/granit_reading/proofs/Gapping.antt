@@ -20,8 +20,9 @@ use Rattle.granit_lexemes.specs.PlainExtent.{over}
 use Rattle.granit_lexemes.specs.Tail.{tail_at}
 use Rattle.granit_lexemes.proofs.HereLemmas.{stepped_text}
 use Rattle.granit_lexemes.specs.Gap.{Each}
-use Rattle.granit_scalars.proofs.Comments.{comment_reads}
-use Rattle.granit_blocks.proofs.BlockHeads.{TailWrong, touches, spoils, TailReads, tail_reads}
+use Rattle.granit_blocks.proofs.BlockHeads.{comment_reads}
+use Rattle.granit_blocks.proofs.BlockHeads.{TailWrong, touches, spoils}
+pub use Rattle.granit_blocks.proofs.BlockHeads.{TailReads, tail_reads}
 use Rattle.granit_blocks.proofs.Moving.{past_reads}
 use Rattle.granit_termination.proofs.LengthLemmas.{step-less}
 use Rattle.granit_termination.proofs.ReadLengths.{past_prefix_mark-less}

@@ -21,13 +21,13 @@ use Rattle.granit_lexemes.specs.QuotedExtent.{AnswersQuoted}
 use Rattle.granit_lexemes.specs.Outcome.{Fault, ◌>>=◌}
 use Rattle.granit_lexemes.specs.QuotedScalar.{quoted_scalar}
 use Rattle.granit_lexemes.specs.Tail.{tail_at}
-use Rattle.granit_scalars.proofs.Comments.{comment_answered}
-use Rattle.granit_scalars.proofs.PlainOnce.{is_answered}
-use Rattle.granit_quoted_laws.proofs.QuotedOnce.{quoted_is_answered}
-use Rattle.granit_blocks.proofs.BlockHeads.{tail_is}
+use Rattle.granit_blocks.proofs.BlockHeads.{comment_answered}
+use Rattle.granit_blocks.proofs.BlockSpans.{is_answered}
+pub use Rattle.granit_blocks.proofs.Moving.{quoted_is_answered}
+pub use Rattle.granit_blocks.proofs.BlockHeads.{tail_is}
 use Rattle.granit_blocks.proofs.BlockLaw.{block_is_answered}
-use Rattle.granit_names.proofs.NameLaw.{name_is}
-use Rattle.granit_names.proofs.TagOnce.{tag_is}
+use Rattle.granit_directive_laws.proofs.LineLaw.{name_is}
+use Rattle.granit_directive_laws.proofs.LineLaw.{tag_is}
 use Rattle.granit_machine.specs.Columns.{refuse_column, entered, with_entry, with_pair}
 use Rattle.granit_machine.specs.FlowLexemes.{opener, closed_bracket, closes, closer_by, comma}
 use Rattle.granit_machine.specs.IndicatorLexemes.{is_tabbed_dash, behind_dash, dash_up_to, dash, question_up_to}

@@ -25,11 +25,12 @@ use Rattle.granit_base.specs.PlainContent.{is_content}
 use Rattle.granit_lexemes.specs.QuotedScalar.{quote_char, quoted_scalar}
 use Rattle.granit_lexemes.specs.Tags.{name_at, tag_at}
 use Rattle.granit_lexemes.specs.Tail.{tail_at}
-use Rattle.granit_scalars.proofs.PlainOnce.{is_standing, is_refused}
-use Rattle.granit_quoted_laws.proofs.QuotedLaw.{quoted_standing, quoted_refused}
-use Rattle.granit_blocks.proofs.BlockLaw.{block_standing, block_refused}
-use Rattle.granit_names.proofs.NameLaw.{name_stands, name_refused}
-use Rattle.granit_names.proofs.TagLaw.{tag_stands, tag_refused}
+use Rattle.granit_blocks.proofs.BlockSpans.{is_standing, is_refused}
+use Rattle.granit_blocks.proofs.Moving.{quoted_standing, quoted_refused}
+use Rattle.granit_blocks.proofs.BlockLaw.{block_standing}
+pub use Rattle.granit_blocks.proofs.BlockLaw.{block_refused}
+use Rattle.granit_directive_laws.proofs.LineLaw.{name_stands, name_refused}
+use Rattle.granit_directive_laws.proofs.LineLaw.{tag_stands, tag_refused}
 use Rattle.granit_directive_laws.proofs.LineLaw.{whole_stands, whole_caused}
 use Rattle.granit_machine.specs.Columns.{refuse_column, entered, with_entry, pair_entered, with_pair, ends_all}
 use Rattle.granit_machine.specs.FlowLexemes.{opener, closed_bracket, closes, closer_by, closer, last_of_comma, comma}

@@ -1,4 +1,6 @@
 -- What stands in a text is what the reader gives, and it is all that stands there.
+pub use Rattle.granit_directive_laws.proofs.LineLaw.{whole_is, whole_refused}
+pub use Rattle.granit_directive_laws.proofs.FirstLaw.{directive_cause_refused}
 use Rattle.std.proofs.Common.{◌≡◌, ◌&&◌, Bool, true, false, List, [], ◌∷◌, ◌++◌, Option, Some, None, Result, Ok, Err}
 use Rattle.std.proofs.Common.{◌⊎◌, inl, inr, refl, sym, ap, ap₂, ◌∙◌, subst, append_assoc}
 use Rattle.std.specs.Prelude.{if◌then◌else◌}
@@ -11,7 +13,6 @@ use Rattle.granit_lexemes.specs.Lexeme.{Lexeme, Item, OfLexeme}
 use Rattle.granit_lexemes.specs.Outcome.{Fault, ◌>>=◌}
 use Rattle.granit_lexemes.specs.Pieces.{with_front, pieces}
 use Rattle.granit_lexemes.proofs.PieceLemmas.{pieces_more}
-use Rattle.granit_directive_laws.proofs.LineLaw.{whole_is}
 use Rattle.granit_machine.specs.Columns.{closed_at, closed_all, ends_at, ends_all}
 use Rattle.granit_machine.specs.Laid.{Laid, is_in_flow, is_adjacent, innermost_column, block_column}
 use Rattle.granit_lexemes.specs.declared.layout.PossibleKey.{PossibleKey}

@@ -1,4 +1,5 @@
 -- What the reader reads of a text is what the text holds.
+pub use Rattle.granit_blocks.proofs.BlockSpans.{body_reaches, front_reaches, header_reaches}
 use Rattle.std.proofs.Common.{◌≡◌, ℕ, ◌&&◌, Bool, true, false, List, [], ◌∷◌, ◌++◌, Option, Some, None, Result}
 use Rattle.std.proofs.Common.{Ok, Err, ◌⊎◌, inl, inr, refl, sym, ap, ap₂, ◌∙◌, subst, append_assoc}
 use Rattle.std.specs.Prelude.{if◌then◌else◌}
@@ -18,7 +19,7 @@ use Rattle.granit_lexemes.specs.Outcome.{Fault, ◌>>=◌}
 use Rattle.granit_lexemes.specs.Pieces.{with_front, pieces}
 use Rattle.granit_base.specs.PlainContent.{is_content}
 use Rattle.granit_lexemes.specs.QuotedScalar.{quote_char}
-use Rattle.granit_scalars.proofs.Turning.{Carries, pieces_hold}
+use Rattle.granit_blocks.proofs.Leading.{Carries, pieces_hold}
 use Rattle.granit_machine.specs.Columns.{closed_at, closed_all, ends_at, ends_all}
 use Rattle.granit_machine.specs.Gaps.{gap}
 use Rattle.granit_machine.specs.Laid.{Laid, is_in_flow, is_adjacent, innermost_column, block_column}
@@ -33,7 +34,8 @@ use Rattle.granit_machine.specs.PossibleKeys.{is_stale, refuse_required, stale_k
 use Rattle.granit_machine.specs.Reader.{noded, lexeme_of, is_strict_outside, lexeme_in_column, lexeme_by, lexeme}
 use Rattle.granit_machine.specs.Reader.{read_behind, read_whole, read, LexState, is_end, behind_read, lex_turn, lex_len}
 use Rattle.granit_machine.specs.ReaderState.{ReaderState}
-use Rattle.granit_termination.proofs.LexLengths.{noded-flow, lex_turn-Shortens}
+use Rattle.granit_termination.proofs.LexLengths.{lex_turn-Shortens}
+pub use Rattle.granit_termination.proofs.LexLengths.{noded-flow}
 use Rattle.granit_machine.proofs.SortLemmas.{plain_sign-content}
 use Rattle.granit_language.specs.Before.{freshened, with_run, in_front}
 use Rattle.granit_language.specs.Begins.{SignBegins, alias, anchor, tag, quote, Begins, directive, sign}

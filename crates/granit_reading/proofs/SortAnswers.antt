@@ -181,4 +181,3 @@ sort_answers in_flow adjacent h b = begins_answer in_flow adjacent b
 pub kind_not_end : {A : Type 0} (kind : LexemeKind) (x : Lexeme) → x.kind ≡ kind → is_end_kind kind ≡ false
     → is_end_kind x.kind ≡ true → A
 kind_not_end kind x k n e = absurd (let f = ap is_end_kind k in cc (e, f, n))
-

@@ -9,11 +9,12 @@ use Rattle.granit_lexemes.specs.Here.{Here}
 use Rattle.granit_lexemes.specs.Lexeme.{Item}
 use Rattle.granit_lexemes.specs.Outcome.{Fault}
 use Rattle.granit_lexemes.specs.Pieces.{with_front, pieces}
-use Rattle.granit_scalars.proofs.Turning.{Carries, pieces_hold}
+pub use Rattle.granit_blocks.proofs.Leading.{Carries, pieces_hold}
 use Rattle.granit_machine.specs.Lexing.{lex, lex_start}
 use Rattle.granit_machine.specs.Reader.{read, LexState, is_end, behind_read, lex_turn, lex_len}
 use Rattle.granit_machine.specs.ReaderState.{ReaderState, Read, reader_start}
-use Rattle.granit_termination.proofs.LexLengths.{lex_turn-Shortens, at_read}
+use Rattle.granit_termination.proofs.LexLengths.{at_read}
+pub use Rattle.granit_termination.proofs.LexLengths.{lex_turn-Shortens}
 use Rattle.granit_language.specs.Reached.{Reads, ReadRefused, StopsThere, ReadWhole, whole_ends, whole_stops}
 use Rattle.granit_language.specs.Reached.{whole_goes_on}
 use Rattle.granit_reading.proofs.Answering.{Answers}

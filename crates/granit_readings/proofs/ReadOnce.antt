@@ -1,15 +1,16 @@
 -- A text has one reading at most, as trees and as events.
+pub use Rattle.granit_answers.proofs.OneCause.{answer_reads, cause_answered, reading_answered}
+pub use Rattle.granit_answers.proofs.CommentsCaused.{any_fault_caused}
 use Rattle.std.proofs.Common.{◌≡◌, ℕ, true, List, [], ◌∷◌, ◌++◌, map, None, Ok, Result, refl, sym}
 use Rattle.std.proofs.Common.{ap, ◌∙◌, subst}
 use Rattle.std.proofs.lemmas.List.{append-nil}
 use Rattle.granit_lexemes.proofs.PieceLemmas.{fault_none}
-use Rattle.granit_answers.proofs.OneCause.{answer_reads, reading_answered}
-use Rattle.granit_order.specs.Answers.{AnswersReading}
+use Rattle.granit_declared.specs.DeclaredReading.{AnswersReading}
 use Rattle.granit_declared.proofs.CommentsSaid.{one_telling}
 use Rattle.granit_declared.proofs.ReadingSaid.{answer_declared, flags_are}
 use Rattle.granit_declared.specs.DeclaredReading.{DeclaredReading}
-use Rattle.granit_before.specs.KeyBegins.{items_of, FlagsSay}
-use Rattle.granit_before.specs.ToldComments.{CommentsTold}
+use Rattle.granit_declared.specs.DeclaredReading.{items_of, FlagsSay}
+use Rattle.granit_declared.specs.DeclaredReading.{CommentsTold}
 use Rattle.granit_error.specs.OptionsData.{OptionsData}
 use Rattle.granit_grammar.proofs.Complete.{one_stream}
 use Rattle.granit_grammar.proofs.Numbers.{stream_named}
@@ -37,8 +38,8 @@ use Rattle.granit_machine.specs.Lexing.{FlaggedItem, flagged}
 use Rattle.granit_machine.specs.Machine.{run}
 use Rattle.granit_machine.specs.Reader.{LexState}
 use Rattle.granit_machine.specs.ReaderState.{ReaderState, reader_start}
-use Rattle.granit_reading.proofs.ReadingLaw.{lexed}
-use Rattle.granit_reading.proofs.WholeLaw.{all_read_whole, one_whole}
+use Rattle.granit_quiet.proofs.TellStream.{lexed}
+use Rattle.granit_quiet.proofs.TellStream.{all_read_whole, one_whole}
 use Rattle.granit_readings.proofs.TerminalsFit.{terminals_lines, terminals_keys, scoped_lines, scoped_keys}
 use Rattle.granit_readings.specs.ReadAsTrees.{ReadAsTrees}
 

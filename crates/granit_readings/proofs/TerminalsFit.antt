@@ -19,7 +19,8 @@ use Rattle.granit_lexemes.specs.Lexeme as lexemes
 use Rattle.granit_lexemes.specs.Lexeme.{KeyStart, Lexeme, Item, OfLexeme, OfComment}
 use Rattle.granit_machine.specs.Lexing.{FlaggedItem, flagged}
 use Rattle.granit_machine.specs.ReaderState.{ReaderState, reader_start}
-use Rattle.granit_places.proofs.KeysLaw.{keys_fit, lines_fit}
+use Rattle.granit_declared.proofs.KeyFlags.{keys_fit}
+use Rattle.granit_declared.proofs.CommentsSaid.{lines_fit}
 
 abbrev seen : List FlaggedItem → List Terminal
 seen is = map terminal_seen (lexemes_flagged is)

@@ -1,7 +1,7 @@
 -- What a text is read as: documents as trees, without their events.
 use Rattle.std.specs.Prelude.{◌≡◌, ℕ, true, List, [], map}
 use Rattle.granit_error.specs.OptionsData.{OptionsData}
-use Rattle.granit_quiet.specs.Quiet.{but_comments}
+pub use Rattle.granit_quiet.specs.Quiet.{but_comments}
 use Rattle.granit_language.specs.Node.{Stream}
 use Rattle.granit_language.specs.Reached.{ReadWhole}
 use Rattle.granit_language.specs.Reading.{IsReading}
@@ -14,7 +14,7 @@ use Rattle.granit_lexemes.specs.Here.{start_of}
 use Rattle.granit_lexemes.specs.PlainEvent.{PlainEvent}
 use Rattle.granit_machine.specs.Lexing.{FlaggedItem}
 use Rattle.granit_machine.specs.ReaderState.{ReaderState, reader_start}
-use Rattle.granit_before.specs.KeyBegins.{items_of, FlagsSay}
+use Rattle.granit_declared.specs.DeclaredReading.{items_of, FlagsSay}
 
 -- All items of a text stand in it up to its end, each flagged where a simple key begins with it, and its lexemes, each
 -- with what is declared before it, are read as these documents.

@@ -1,5 +1,5 @@
 //! A text is read in one way at most, as trees and as events.
-ghost use Rattle.granit_order.specs.Answers.{AnswersReading};
+ghost use Rattle.granit_declared.specs.DeclaredReading.{AnswersReading};
 ghost use Rattle.granit_declared.specs.DeclaredReading.{DeclaredReading};
 ghost use Rattle.granit_error.specs.OptionsData.{OptionsData};
 ghost use Rattle.granit_quiet.specs.CommentEvents.{only_comments};

@@ -1,4 +1,5 @@
 -- What the events of a stream leave open can be closed.
+pub use Rattle.granit_streams.proofs.StreamLaws.{end_behind}
 use Rattle.std.proofs.Common.{◌≡◌, List, [], ◌∷◌, ◌++◌, Option, Some, None, refl, sym, ap, subst, ◌∙◌}
 use Rattle.granit_base.specs.Place.{Mark}
 use Rattle.granit_lexemes.specs.PlainEvent.{PlainEvent, EventKind, event_on, StreamStart, StreamEnd, DocumentStart}

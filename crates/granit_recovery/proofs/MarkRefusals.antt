@@ -37,7 +37,7 @@ use Rattle.granit_machine.specs.TokenSort.{Token, token_sort, TokenSort}
 use Rattle.granit_recovery.proofs.SeatLaws.{end_top_fine, end_top_sits, IsOuter, Sits, SitsBy}
 use Rattle.granit_restart.specs.Header.{is_start_expected}
 use Rattle.granit_restart.specs.Skipping.{is_within_document}
-use Rattle.granit_scalars.proofs.Turning.{Carries, pieces_hold}
+use Rattle.granit_feeding.proofs.RoomStream.{Carries, pieces_hold}
 use Rattle.granit_streams.proofs.Nesting.{Fine}
 
 abbrev pub end_token : Lexeme → Token

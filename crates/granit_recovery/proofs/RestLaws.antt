@@ -26,8 +26,9 @@ use Rattle.granit_restart.specs.Following.{document_follows, past_events, past_i
 use Rattle.granit_restart.specs.Header.{is_directives, is_start_expected, parser_takes, takes_front}
 use Rattle.granit_restart.specs.Skipping.{ends_before, is_within_document, with_pending}
 use Rattle.granit_restart.specs.Turned.{with_count}
-use Rattle.granit_streams.proofs.Nesting.{behind_append, levels_of}
-use Rattle.granit_streams.proofs.StreamLaws.{OnlyComments}
+use Rattle.granit_streams.proofs.Nesting.{behind_append}
+pub use Rattle.granit_streams.proofs.Nesting.{levels_of}
+pub use Rattle.granit_streams.proofs.StreamLaws.{OnlyComments}
 use Rattle.granit_steps.specs.Levels.{and_then, behind_events, InStream, Level}
 use Rattle.granit_steps.specs.Steps.{asks_next, feed_front, front_turn, is_next_settled, line_behind, may_go, read_more}
 use Rattle.granit_steps.specs.Steps.{read_unless, StepState, step_turn, Turn, turn_by, with_fed, with_read}

@@ -40,7 +40,8 @@ use Rattle.granit_machine.specs.NodeSteps.{node_by, node}
 use Rattle.granit_machine.specs.TokenSort.{TokenSort, BeginsKey, BeginsNode, QuestionToken, BareColon, KeyedColon}
 use Rattle.granit_machine.specs.TokenSort.{CommaToken, SequenceCloser, MappingCloser, Token, token_column, begins_node}
 use Rattle.granit_machine.specs.TokenSort.{begins_pair, is_dash_token, is_in_column, is_right_of}
-use Rattle.granit_streams.proofs.Nesting.{Clean, Fine}
+use Rattle.granit_streams.proofs.Nesting.{Fine}
+pub use Rattle.granit_streams.proofs.Nesting.{Clean}
 
 -- ---- where a parser stands
 

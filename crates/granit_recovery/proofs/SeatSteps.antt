@@ -6,7 +6,8 @@ use Rattle.std.specs.Prelude.{if◌then◌else◌}
 use Rattle.granit_error.specs.FaultKind.{TooManyComments}
 use Rattle.granit_error.specs.OptionsData.{OptionsData}
 use Rattle.granit_feeding.proofs.RoomSteps.{calm_by}
-use Rattle.granit_feeding.proofs.RoomSteps.{Calm, CalmBy, Leaves, MayWait}
+use Rattle.granit_feeding.proofs.RoomSteps.{Leaves, MayWait}
+pub use Rattle.granit_feeding.proofs.RoomSteps.{Calm, CalmBy}
 use Rattle.granit_feeding.proofs.RoomStream.{token_leaves}
 use Rattle.granit_lexemes.specs.Basics.{fails_at}
 use Rattle.granit_lexemes.specs.Comment.{CommentRead}
@@ -34,9 +35,9 @@ use Rattle.granit_machine.specs.TokenSort.{begins_node, Token, token_of}
 use Rattle.granit_recovery.proofs.SeatLaws.{clean_rooted, end_top_fine, end_top_sits, flow_mapping_sits, flow_pair_sits}
 use Rattle.granit_recovery.proofs.SeatLaws.{flow_sequence_sits, mapping_sits, node_sits, Rooted, sequence_sits}
 use Rattle.granit_recovery.proofs.SeatLaws.{Sits, sits_if, SitsBy, StepSits}
-use Rattle.granit_scalars.proofs.Turning.{Carries, pieces_hold}
-use Rattle.granit_streams.proofs.Nesting.{Fine}
-use Rattle.granit_streams.proofs.StreamNesting.{is_end_item}
+use Rattle.granit_feeding.proofs.RoomStream.{Carries, pieces_hold}
+pub use Rattle.granit_streams.proofs.Nesting.{Fine}
+pub use Rattle.granit_streams.proofs.StreamNesting.{is_end_item}
 
 -- ---- around documents
 

@@ -1,4 +1,5 @@
 -- Where skipping ends, a stream goes on, or no event comes at all.
+pub use Rattle.granit_streams.proofs.StreamLaws.{run_is_stream, told_begins}
 use Rattle.std.proofs.Common.{◌≡◌, ℕ, zero, suc, ◌<◌, Bool, true, false, ◌&&◌, List, [], ◌∷◌, Option, Some, None}
 use Rattle.std.proofs.Common.{Result}
 use Rattle.std.proofs.Common.{Ok, Err, refl, sym, ap, subst, ◌∙◌, arith}

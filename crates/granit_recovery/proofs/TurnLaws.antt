@@ -22,8 +22,10 @@ use Rattle.granit_restart.specs.Calls.{failing_by, failing_in}
 use Rattle.granit_steps.proofs.Futures.{pushed_nil}
 use Rattle.granit_steps.proofs.KeyReads.{possibles, Items, IsComment, Lexed, read_keys}
 use Rattle.granit_streams.proofs.Nesting.{levels_of}
-use Rattle.granit_streams.proofs.StreamLaws.{Fit, OnlyComments, has_end, only_rest}
-use Rattle.granit_streams.proofs.StreamNesting.{is_end_item, Rests, Over, Fed, feed_fed, comment_over}
+use Rattle.granit_streams.proofs.StreamLaws.{Fit, OnlyComments, only_rest}
+pub use Rattle.granit_streams.proofs.StreamLaws.{has_end}
+use Rattle.granit_streams.proofs.StreamNesting.{is_end_item, Rests, Over, comment_over}
+pub use Rattle.granit_streams.proofs.StreamNesting.{Fed, feed_fed}
 use Rattle.granit_steps.specs.Levels.{Level, behind_event, behind_events}
 use Rattle.granit_steps.specs.Steps.{StepState, incoming, may_go, line_behind, Turn}
 use Rattle.granit_steps.specs.Steps.{with_read, read_unless, read_more, with_fed, feed_front, front_turn, turn_by}

@@ -22,7 +22,7 @@ use Rattle.granit_restart.specs.Skipping.{NoEnd, restarted, skip_by_turns, skip_
 use Rattle.granit_restart.specs.Skipping.{skipped_fault, skipped_to, Stops, with_pending}
 use Rattle.granit_restart.specs.Turned.{Turned, turned_anew, turned_counting, turned_keeping, turned_on, turned_start}
 use Rattle.granit_restart.specs.Turned.{turned_with}
-use Rattle.granit_scalars.proofs.Turning.{Carries, pieces_hold}
+use Rattle.granit_feeding.proofs.RoomStream.{Carries, pieces_hold}
 use Rattle.granit_steps.proofs.StepLaws.{step_turn-Shortens}
 use Rattle.granit_steps.specs.Steps.{first_pending, next_event}
 use Rattle.granit_steps.specs.Steps.{settle, StepState, step_size, step_turn, Turn}

@@ -16,7 +16,7 @@ use Rattle.granit_lexemes.specs.Outcome.{Fault, ◌>>=◌}
 use Rattle.granit_lexemes.specs.Pieces.{pieces, turns}
 use Rattle.granit_lexemes.specs.PlainEvent.{PlainEvent, EventKind, event_at, StreamEnd, DocumentStart}
 use Rattle.granit_lexemes.specs.PlainEvent.{Comment}
-use Rattle.granit_termination.proofs.LexLengths.{lex_turn-Shortens}
+use Rattle.granit_steps.proofs.Futures.{lex_turn-Shortens}
 use Rattle.granit_machine.specs.Closing.{close_turn}
 use Rattle.granit_machine.specs.Entries.{lookup_text}
 use Rattle.granit_machine.specs.Frames.{Root, Directives, Inside, Waiting, ParserState}

@@ -18,7 +18,7 @@ use Rattle.granit_sourced.specs.Going.{Failed, FailsAt, GoesWithCalls, ReadsNext
 use Rattle.granit_sourced.specs.Sources.{NeverRevives}
 use Rattle.granit_lexemes.proofs.PieceLemmas.{pieces_fails}
 use Rattle.granit_restart.proofs.AheadLaws.{failing_alike, first_of, next_alike, turn_next, waits_next}
-use Rattle.granit_looking.proofs.EndLaws.{next_none}
+use Rattle.granit_calls.proofs.AskLaws.{next_none}
 use Rattle.granit_restart.proofs.TurnwiseLaws.{failing_here, failing_on}
 use Rattle.granit_restart.specs.Ahead.{AheadOf, AlikeNext, ComesLast, NoneComes, is_note}
 use Rattle.granit_restart.specs.Calls.{Calls, failing, noted}

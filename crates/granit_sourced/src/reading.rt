@@ -15,10 +15,10 @@ ghost use Rattle.granit_stepper.specs.Waiting.{IsAtEnd};
 ghost use Rattle.granit_steps.specs.Steps.{StepState};
 
 use granit_base::Span;
+use granit_calls::calls_go_by_turns;
 use granit_error::ScanError;
 use granit_event::Event;
 use granit_input::BorrowedInput;
-use granit_calls::calls_go_by_turns;
 use granit_stepper::Stepper;
 use std::alloc::Global;
 

@@ -10,10 +10,10 @@ ghost use Rattle.granit_stack_laws.specs.Coming.{IncludeComesThrough, IncludesAr
 ghost use Rattle.granit_stack.specs.Including.{ReadsText, replayed};
 ghost use Rattle.granit_stack_laws.specs.Life.{IsNumbered, IsUnread, UnreadAny};
 
+use granit_ids::{a_text_with_one_start_is_one_document, ids_are_counted, ids_begin_at_the_offset};
 use granit_input::BorrowedInput;
 use granit_layers::{AnyKind, StackedParser, a_replay_comes_through};
 use granit_parser::Parser;
-use granit_ids::{a_text_with_one_start_is_one_document, ids_are_counted, ids_begin_at_the_offset};
 use granit_replay::{ReplayParser, Resolver};
 
 /// A text that is read whole, above a parser or not, has at most one document where at most one of its events starts

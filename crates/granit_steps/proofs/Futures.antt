@@ -20,7 +20,8 @@ use Rattle.granit_steps.specs.Steps.{is_over, may_go, free_items, line_behind, T
 use Rattle.granit_steps.specs.Steps.{with_fed, feed_front, front_turn, turn_by, step_turn, reading_size, step_size}
 use Rattle.granit_steps.specs.Told.{EventsTold, before_told, told_behind, fed, parsers_items}
 use Rattle.granit_lexemes.proofs.PieceLemmas.{pieces_done, pieces_more}
-use Rattle.granit_termination.proofs.LexLengths.{ReadFits, read-fits, lex_turn-Shortens}
+use Rattle.granit_termination.proofs.LexLengths.{ReadFits, read-fits}
+pub use Rattle.granit_termination.proofs.LexLengths.{lex_turn-Shortens}
 use Rattle.granit_termination.proofs.ReadLengths.{reader_len}
 use Rattle.granit_steps.proofs.Chains.{Chain, LexChain, pieces_chain, items_below}
 use Rattle.granit_steps.proofs.Feeding.{feed_any}

@@ -34,7 +34,8 @@ use Rattle.granit_lexemes.specs.PlainEvent as events
 use Rattle.granit_lexemes.specs.Comment.{CommentRead}
 use Rattle.granit_lexemes.specs.Lexeme as lexemes
 use Rattle.granit_streams.proofs.Nesting.{levels_of, Clean, Fine, more_left, clean_begun, Is, Agrees, agrees, flush_is}
-use Rattle.granit_streams.proofs.Nesting.{give_is, give_empty_is, Open, leaf_agrees, begin_is, waits_is, top_is, null_is}
+use Rattle.granit_streams.proofs.Nesting.{give_is, give_empty_is, Open, leaf_agrees, begin_is, waits_is, top_is}
+use Rattle.granit_streams.proofs.Nesting.{null_is}
 use Rattle.granit_streams.proofs.Nesting.{owed_is, end_node_agrees, ActsAs}
 
 -- ---- steps that may fail

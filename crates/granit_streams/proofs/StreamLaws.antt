@@ -26,7 +26,7 @@ use Rattle.granit_steps.specs.Levels.{Level, InStream, and_then, behind_events, 
 use Rattle.granit_steps.specs.Steps.{incoming}
 use Rattle.granit_steps.specs.Told.{EventsTold, before_told, told_behind, fed, parsers_items, told_read, told_of}
 use Rattle.granit_steps.specs.Told.{answer}
-use Rattle.granit_termination.proofs.LexLengths.{lex_turn-Shortens}
+use Rattle.granit_steps.proofs.Futures.{lex_turn-Shortens}
 use Rattle.granit_steps.proofs.Chains.{LexChain, pieces_chain}
 use Rattle.granit_steps.proofs.KeyReads.{possibles, Items, IsComment, Lexed, read_keys}
 use Rattle.granit_streams.proofs.Nesting.{base_levels, levels_of, Clean, Fine, more_left, done_levels, clean_done}

@@ -14,7 +14,8 @@ use Rattle.granit_lexemes.specs.Here.{Here, text_len, next_char, step, mid_line,
 use Rattle.granit_lexemes.specs.Outcome.{Fault, ◌>>=◌}
 use Rattle.granit_lexemes.specs.Pieces.{pieces}
 use Rattle.granit_lexemes.specs.Tail.{tail_at}
-use Rattle.granit_termination.proofs.LengthLemmas.{Fits, fits_if, fits_bind, fits_behind, pieces-fits, here_if, step-fits}
+use Rattle.granit_termination.proofs.LengthLemmas.{Fits, fits_if, fits_bind, fits_behind, pieces-fits, here_if}
+use Rattle.granit_termination.proofs.LengthLemmas.{step-fits}
 use Rattle.granit_termination.proofs.LengthLemmas.{step-less, past-fits, past_break-fits, tail_at-fits}
 
 header_sign-fits : (start : Mark) (b : BlockHeader) (n : ℕ) (h : Here) → text_len h ≤ n

@@ -28,8 +28,10 @@ use Rattle.granit_machine.specs.StreamLexemes.{text_end, start_mark, end_mark, d
 use Rattle.granit_termination.proofs.LengthLemmas.{Fits, fits_if}
 use Rattle.granit_termination.proofs.ReadLengths.{reader_len, GapState, GapFits, gap-fits, opener-fits, closer-fits}
 use Rattle.granit_termination.proofs.ReadLengths.{comma-fits, dash-fits, question-fits, colon-fits, alias_lexeme-fits}
-use Rattle.granit_termination.proofs.ReadLengths.{anchor_lexeme-fits, tag_lexeme-fits, block_lexeme-fits, plain_lexeme-fits}
-use Rattle.granit_termination.proofs.ReadLengths.{quoted_and_gap-fits, directive_lexeme-fits, three_steps, end_mark-fits}
+use Rattle.granit_termination.proofs.ReadLengths.{anchor_lexeme-fits, tag_lexeme-fits, block_lexeme-fits}
+use Rattle.granit_termination.proofs.ReadLengths.{plain_lexeme-fits}
+use Rattle.granit_termination.proofs.ReadLengths.{quoted_and_gap-fits, directive_lexeme-fits, three_steps}
+use Rattle.granit_termination.proofs.ReadLengths.{end_mark-fits}
 use Rattle.granit_machine.proofs.SortLemmas.{plain_sign-content}
 
 -- ---- a lexeme

@@ -26,7 +26,8 @@ use Rattle.granit_lexemes.proofs.PlainTurned.{Turned, past_a_blank, past_a_break
 use Rattle.granit_lexemes.proofs.PlainTurned.{past_content, at_no_content, turned}
 use Rattle.granit_termination.proofs.BlockLengths.{only_printable-fits}
 use Rattle.granit_termination.proofs.LengthLemmas.{Fits, fits_if, fits_bind, turns-fits, then_more-fits, pieces-fits}
-use Rattle.granit_termination.proofs.LengthLemmas.{here_if, step-fits, step-less, past-fits, past_break-fits, comment-fits}
+use Rattle.granit_termination.proofs.LengthLemmas.{here_if, step-fits, step-less, past-fits, past_break-fits}
+use Rattle.granit_termination.proofs.LengthLemmas.{comment-fits}
 
 -- ---- plain scalars
 

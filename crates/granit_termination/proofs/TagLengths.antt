@@ -22,7 +22,8 @@ use Rattle.granit_lexemes.specs.Pieces.{pieces}
 use Rattle.granit_lexemes.specs.Tags.{Budget, spent, UriState, escaped_byte, bytes_behind, trailing_bytes, spelled_char}
 use Rattle.granit_lexemes.specs.Tags.{escaped_by, uri_turn, uri_len, decoded, TagRead, tag_of, tag_ends}
 use Rattle.granit_lexemes.specs.Tags.{behind_verbatim, behind_handle, short_tag, tag_by, tag_at, name_up_to, name_at}
-use Rattle.granit_termination.proofs.LengthLemmas.{Fits, fits_if, fits_bind, fits_behind, pieces-fits, here_if, step-fits}
+use Rattle.granit_termination.proofs.LengthLemmas.{Fits, fits_if, fits_bind, fits_behind, pieces-fits, here_if}
+use Rattle.granit_termination.proofs.LengthLemmas.{step-fits}
 use Rattle.granit_termination.proofs.LengthLemmas.{step-less, steps-fits, past-fits, comment-fits, tail_at-fits}
 
 -- ---- names

@@ -9,8 +9,10 @@ use Rattle.granit_views.specs.Good.{made_key_done, made_done, square_ask_done, s
 use Rattle.granit_views.specs.View.{Beside, state_of, give_all, with_given}
 use Rattle.granit_language.specs.Seen.{terminal_of}
 use Rattle.granit_base.specs.Place.{Mark}
-use Rattle.granit_event_machine.specs.EventMachine.{OpenFrame, DocumentFrame, PropertiesFrame, SequenceFrame, MappingFrame}
-use Rattle.granit_event_machine.specs.EventMachine.{FlowSequenceFrame, FlowMappingFrame, FlowPairFrame, EventState, IsFresh}
+use Rattle.granit_event_machine.specs.EventMachine.{OpenFrame, DocumentFrame, PropertiesFrame, SequenceFrame}
+use Rattle.granit_event_machine.specs.EventMachine.{MappingFrame}
+use Rattle.granit_event_machine.specs.EventMachine.{FlowSequenceFrame, FlowMappingFrame, FlowPairFrame, EventState}
+use Rattle.granit_event_machine.specs.EventMachine.{IsFresh}
 use Rattle.granit_event_machine.specs.EventMachine.{HasDirectives, IsRooted, InFrames, IsEnded, Ending, with_event}
 use Rattle.granit_event_machine.specs.EventMachine.{past_sequence, past_mapping, past_asked, finish_frames, ended_by}
 use Rattle.granit_event_machine.specs.EventMachine.{put_frames, frames_room, frames_indent}

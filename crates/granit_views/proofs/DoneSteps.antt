@@ -2,7 +2,8 @@
 use Rattle.granit_views.specs.Good.{Holes}
 use Rattle.granit_views.specs.Steps.{Steps}
 use Rattle.granit_views.specs.View.{Beside}
-use Rattle.granit_event_machine.specs.EventMachine.{KeyDone, AskDone, Solo, Done, OpenFrame, MappingFrame, FlowSequenceFrame}
+use Rattle.granit_event_machine.specs.EventMachine.{KeyDone, AskDone, Solo, Done, OpenFrame, MappingFrame}
+use Rattle.granit_event_machine.specs.EventMachine.{FlowSequenceFrame}
 use Rattle.granit_event_machine.specs.EventMachine.{FlowMappingFrame}
 use Rattle.granit_language.specs.Scope.{Scope}
 use Rattle.granit_lexemes.specs.Lexeme.{KeyStart}

@@ -19,7 +19,8 @@ use Rattle.granit_views.specs.Good.{ask_done, pair_done, item_done, curly_key_do
 use Rattle.granit_views.specs.Good.{curly_done, made_key_done, made_done, square_ask_done, square_done}
 use Rattle.granit_views.specs.View.{frames_of, parser_properties, Beside, state_of, give_all, with_given, waits_at}
 use Rattle.granit_language.specs.Seen.{terminal_of}
-use Rattle.granit_event_machine.specs.EventMachine.{Asking, AskDone, Done, Value, OpenFrame, DocumentFrame, PropertiesFrame}
+use Rattle.granit_event_machine.specs.EventMachine.{Asking, AskDone, Done, Value, OpenFrame, DocumentFrame}
+use Rattle.granit_event_machine.specs.EventMachine.{PropertiesFrame}
 use Rattle.granit_event_machine.specs.EventMachine.{SequenceFrame, MappingFrame, FlowSequenceFrame, FlowMappingFrame}
 use Rattle.granit_event_machine.specs.EventMachine.{FlowPairFrame, InFrames, frames_indent, put_frames, PairAt}
 use Rattle.granit_language.specs.Node.{TreeProperties, NoProperties, One, Two}

@@ -1,6 +1,7 @@
 -- A lexeme where a node must stand outside flow, by the column it stands in.
 use Rattle.granit_views.specs.Steps.{asks, colons, dashes}
-use Rattle.granit_event_machine.specs.EventMachine.{Key, Asking, Value, OpenFrame, DocumentFrame, SequenceFrame, MappingFrame}
+use Rattle.granit_event_machine.specs.EventMachine.{Key, Asking, Value, OpenFrame, DocumentFrame, SequenceFrame}
+use Rattle.granit_event_machine.specs.EventMachine.{MappingFrame}
 use Rattle.granit_event_machine.specs.EventMachine.{EventStep, after_events, if_gives, frames_room, frames_indent}
 use Rattle.granit_event_machine.specs.EventMachine.{part_frames, begin_pair_frames, entry_frames, BlockSite, stop_kind}
 use Rattle.granit_event_machine.specs.EventMachine.{want_frames}

@@ -2,7 +2,8 @@
 -- match, and `in_flow` is what the brackets say.
 use Rattle.std.specs.Prelude.{◌≡◌, ℕ, Bool, true, false, ◌&&◌, ◌||◌, not, List, [], ◌∷◌, Option, Some, None}
 use Rattle.granit_base.specs.Place.{Mark}
-use Rattle.granit_event_machine.specs.EventMachine.{PairAt, Key, KeyDone, AskDone, Done, Value, OpenFrame, DocumentFrame}
+use Rattle.granit_event_machine.specs.EventMachine.{PairAt, Key, KeyDone, AskDone, Done, Value, OpenFrame}
+use Rattle.granit_event_machine.specs.EventMachine.{DocumentFrame}
 use Rattle.granit_event_machine.specs.EventMachine.{PropertiesFrame, SequenceFrame, MappingFrame, FlowSequenceFrame}
 use Rattle.granit_event_machine.specs.EventMachine.{FlowMappingFrame, FlowPairFrame, EventState, InFrames, IsEnded}
 use Rattle.granit_event_machine.specs.EventMachine.{frames_room, put_frames}

@@ -3,7 +3,8 @@ use Rattle.std.specs.Prelude.{◌≡◌, ℕ, zero, suc, Bool, true, false, List
 use Rattle.granit_base.specs.Place.{Mark}
 use Rattle.granit_event_machine.specs.EventMachine.{Opened, Key, KeyDone, Asking, AskDone, Solo, Done, Value, OpenFrame}
 use Rattle.granit_event_machine.specs.EventMachine.{DocumentFrame, PropertiesFrame, SequenceFrame, MappingFrame}
-use Rattle.granit_event_machine.specs.EventMachine.{FlowSequenceFrame, FlowMappingFrame, FlowPairFrame, EventState, IsFresh}
+use Rattle.granit_event_machine.specs.EventMachine.{FlowSequenceFrame, FlowMappingFrame, FlowPairFrame, EventState}
+use Rattle.granit_event_machine.specs.EventMachine.{IsFresh}
 use Rattle.granit_event_machine.specs.EventMachine.{HasDirectives, IsRooted, InFrames}
 use Rattle.granit_language.specs.Node.{TreeProperties, NoProperties, One, Two}
 use Rattle.granit_language.specs.Room.{differ}

@@ -6,7 +6,8 @@ use Rattle.granit_lexemes.specs.Outcome.{Fault}
 use Rattle.granit_lexemes.specs.PlainEvent.{PlainEvent}
 use Rattle.granit_lexemes.specs.Lexeme as lexemes
 use Rattle.granit_views.specs.View.{Beside, state_of, give_all}
-use Rattle.granit_event_machine.specs.EventMachine.{Ending, ending, EventStep, GoesTo, StopsWith, after_events, take_frames}
+use Rattle.granit_event_machine.specs.EventMachine.{Ending, ending, EventStep, GoesTo, StopsWith, after_events}
+use Rattle.granit_event_machine.specs.EventMachine.{take_frames}
 use Rattle.granit_event_machine.specs.Guarded.{whole_guard}
 use Rattle.granit_language.specs.GrammarFault.{GrammarFault, fault_of}
 use Rattle.granit_language.specs.Scope.{Scope}

@@ -5,8 +5,10 @@ use Rattle.granit_error.specs.OptionsData.{OptionsData}
 use Rattle.granit_lexemes.specs.Lexeme as lexemes
 use Rattle.granit_lexemes.specs.PlainEvent.{PlainEvent}
 use Rattle.granit_event_machine.specs.EventMachine.{PairAt, Opened, Key, KeyDone, Asking, AskDone, Solo, Done, Value}
-use Rattle.granit_event_machine.specs.EventMachine.{OpenFrame, DocumentFrame, PropertiesFrame, SequenceFrame, MappingFrame}
-use Rattle.granit_event_machine.specs.EventMachine.{FlowSequenceFrame, FlowMappingFrame, FlowPairFrame, EventState, IsFresh}
+use Rattle.granit_event_machine.specs.EventMachine.{OpenFrame, DocumentFrame, PropertiesFrame, SequenceFrame}
+use Rattle.granit_event_machine.specs.EventMachine.{MappingFrame}
+use Rattle.granit_event_machine.specs.EventMachine.{FlowSequenceFrame, FlowMappingFrame, FlowPairFrame, EventState}
+pub use Rattle.granit_event_machine.specs.EventMachine.{IsFresh}
 use Rattle.granit_event_machine.specs.EventMachine.{HasDirectives, IsRooted, InFrames, IsEnded}
 use Rattle.granit_language.specs.Node.{TreeProperties}
 use Rattle.granit_language.specs.Seen.{Flagged}

@@ -2,8 +2,10 @@
 use Rattle.std.proofs.Common.{◌≡◌, ℕ, Bool, true, false, List, [], ◌∷◌, ◌++◌, refl, sym, ap, ◌∙◌, subst, inl, inr, Some}
 use Rattle.std.proofs.Common.{None, ◌==◌}
 use Rattle.std.specs.Prelude.{◌⊎◌, nat_le}
-use Rattle.granit_event_machine.specs.EventMachine.{EventState, IsFresh, ending, ended_by, EventStep, GoesTo, take_frames}
-use Rattle.granit_event_machine.specs.Guarded.{Guard, Passes, limit_guard, limit_fault, fault_unless, is_loose, state_count}
+use Rattle.granit_event_machine.specs.EventMachine.{EventState, IsFresh, ending, ended_by, EventStep, GoesTo}
+use Rattle.granit_event_machine.specs.EventMachine.{take_frames}
+use Rattle.granit_event_machine.specs.Guarded.{Guard, Passes, limit_guard, limit_fault, fault_unless, is_loose}
+use Rattle.granit_event_machine.specs.Guarded.{state_count}
 use Rattle.granit_event_machine.specs.OpenWithin.{hole_blocks, open_blocks}
 use Rattle.granit_event_machine.specs.Passing.{RunsTo, runs_none, runs_on, GuardFault}
 use Rattle.granit_event_machine.specs.PlaceFrames.{state_at}

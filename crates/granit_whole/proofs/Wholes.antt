@@ -37,7 +37,8 @@ use Rattle.granit_whole.proofs.Completing.{completed_within}
 use Rattle.granit_grammar.proofs.Placing.{Tells, one_cut}
 use Rattle.granit_whole.proofs.Viable.{after_place, completed}
 use Rattle.granit_whole.proofs.Prefixes.{events_are, streams_are_read, faults_are, never_unfinished}
-use Rattle.granit_event_machine.proofs.Guards.{NotFaulty, drop_before, passes_front, passes_same, guarded_tells, TellsOf}
+use Rattle.granit_event_machine.proofs.Guards.{NotFaulty, drop_before, passes_front, passes_same, guarded_tells}
+use Rattle.granit_event_machine.proofs.Guards.{TellsOf}
 use Rattle.granit_grammar.proofs.Kept.{neither, never_kept}
 use Rattle.granit_event_machine.proofs.Guards.{passes_first, passes_second, passes_both, means_passes, passes_means}
 use Rattle.granit_event_machine.proofs.Limit.{from_zero, passes_within, within_passes}

@@ -5,7 +5,7 @@ use Rattle.granit_chains.specs.ChainRows.{stops_of}
 use Rattle.granit_chains.specs.Chains.{chain_ends, chain_goes, nothing_given}
 use Rattle.granit_error.specs.OptionsData.{default_options}
 use Rattle.granit_restart.specs.Calls.{calls_start, next_call}
-use Rattle.granit_led.specs.Stopping.{looked_at}
+use Rattle.granit_alone.specs.Behind.{looked_at}
 use lib.Utf8.{encode}
 use Rattle.std.specs.Fmt.{digits}
 use Rattle.std.specs.Str.{chars}

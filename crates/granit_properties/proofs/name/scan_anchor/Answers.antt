@@ -2,7 +2,7 @@ use Rattle.std.proofs.Common.{◌≡◌, Bool, true, false, refl, ap, ◌∙◌}
 use Rattle.granit_cursor.specs.Reading.{Stands}
 use Rattle.granit_lexemes.specs.NameExtent.{is_name_sign, AnswersName, RefusesName}
 use Rattle.granit_lexemes.specs.Tags.{name_at}
-use Rattle.granit_names.proofs.NameLaw.{name_stands, name_refused, name_is}
+use Rattle.granit_handles.proofs.TagFronts.{name_stands, name_refused, name_is}
 use Rattle.granit_properties.specs.PropertyTokens.{name_sign, name_token}
 use Rattle.granit_properties.proofs.PlacedLemmas.{placed_answers, placed_cause, placed_memory}
 use Rattle.granit_properties.proofs.name.scan_anchor.Goals as goal

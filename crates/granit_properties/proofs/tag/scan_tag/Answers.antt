@@ -1,8 +1,8 @@
 use Rattle.granit_cursor.specs.Reading.{Stands}
 use Rattle.granit_lexemes.specs.TagExtent.{AnswersTag, RefusesTag}
 use Rattle.granit_lexemes.specs.Tags.{tag_at}
-use Rattle.granit_names.proofs.TagLaw.{tag_stands, tag_refused}
-use Rattle.granit_names.proofs.TagOnce.{tag_is}
+use Rattle.granit_handles.proofs.TagFronts.{tag_stands, tag_refused}
+use Rattle.granit_handles.proofs.TagFronts.{tag_is}
 use Rattle.granit_properties.specs.PropertyTokens.{tag_token}
 use Rattle.granit_properties.proofs.PlacedLemmas.{placed_answers, placed_cause, placed_memory}
 use Rattle.granit_properties.proofs.tag.scan_tag.Goals as goal
