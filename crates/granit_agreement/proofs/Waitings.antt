@@ -49,7 +49,8 @@ pair_calm n (FlowPairs p Curly i lead) r made at w v e = cc (e)
 
 square_made :
     (n : ℕ) (a : Bool) (fs : List Rattle.granit_event_machine.specs.EventMachine.OpenFrame) (m : Mark) (w : Waiting) →
-    waiting_of n (pair_frames (Rattle.granit_event_machine.specs.EventMachine.FlowSite Square fs) a (Value m)) ≡ Some w →
+    waiting_of n (pair_frames (Rattle.granit_event_machine.specs.EventMachine.FlowSite Square fs) a (Value m))
+    ≡ Some w →
     a ≡ true
 square_made n true fs m w e = refl
 square_made n false fs m w e = absurd cc

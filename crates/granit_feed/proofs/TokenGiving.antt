@@ -86,7 +86,8 @@ module _ (o : OptionsData) (t : Token) (next : Option ℕ) (p : ParserState) whe
     alone_wants q r closed wants = λ s is few.
         let both : Ok q ≡ Ok p = sym closed ∙ closes_none in
         let same : q ≡ p = cc in
-        subst (λ (n : ParserState). StepWantsToGive r n (take_token o t n)) same (wants same) s (sym taken_alone ∙ is) few
+        subst (λ (n : ParserState). StepWantsToGive r n (take_token o t n)) same (wants same) s
+        (sym taken_alone ∙ is) few
 
   pub token_wants : TokenTakesToGive t p → {X : Type 0} (q : ParserState) (r : Result X Refused) → close o t p ≡ Ok q
       → (keeps_text t.lexeme.kind ≡ false → StepWantsToGive r q (take_token o t q))

@@ -162,8 +162,8 @@ fn take_lexeme<'input>(
     ensures by_fault { TokenAtOnce (machine_token token.old) state.old
         → RefusesByFault (answered fault.new result) (spec.take_lexeme (options_of options.now)
         (machine_token token.old) next_line state.old) }
-    ensures again { StaysAlone (machine_token token.old) state.old → WhereNamedAgain token.old.lexeme.value.kind state.old
-        (StepWantsToGive (answered fault.new result) state.old
+    ensures again { StaysAlone (machine_token token.old) state.old
+        → WhereNamedAgain token.old.lexeme.value.kind state.old (StepWantsToGive (answered fault.new result) state.old
         (spec.take_lexeme (options_of options.now) (machine_token token.old) next_line state.old)) }
     ensures kept { is_directive (kind_view token.old.lexeme.value.kind) ≡ false → state.new.kept ≡ state.old.kept }
     ensures refused { NoneWaitsOutside state.old → KeepsIfRefused (answered fault.new result) state.old state.new }

@@ -38,10 +38,6 @@ use Rattle.granit_lexemes.specs.PlainEvent as events
 use Rattle.granit_lexemes.specs.Lexeme as lexemes
 use Rattle.granit_machine.proofs.ClosingLemmas.{no_dash_pair}
 
-pub calm_by : (room : Result ℕ Fault) (fs : List Frame) (w : Option Waiting) → FreshBy room fs w → CalmBy fs w
-calm_by room fs None h = tt
-calm_by room fs (Some w) h = h.0
-
 -- ---- what waits
 
 -- the frames in which a node can wait
@@ -70,6 +66,10 @@ RoomBehind o t = room_by o t.lexeme.kind t.lexeme.tail
 abbrev pub FreshBy : Result ℕ Fault → List Frame → Option Waiting → Type 0
 FreshBy room fs None = Unit {0}
 FreshBy room fs (Some w) = MayWait fs × (room ≡ Ok w.room) × (w.held ≡ [])
+
+pub calm_by : (room : Result ℕ Fault) (fs : List Frame) (w : Option Waiting) → FreshBy room fs w → CalmBy fs w
+calm_by room fs None h = tt
+calm_by room fs (Some w) h = h.0
 
 abbrev pub LeavesBy : Result ℕ Fault → Stepped → Type 0
 LeavesBy room (Ok q) = FreshBy room q.frames q.waiting

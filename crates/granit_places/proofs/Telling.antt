@@ -35,28 +35,6 @@ use Rattle.granit_language.specs.Standing.{GapStands, in_front_of_comment, in_fr
 use Rattle.granit_language.specs.Standing.{ColonFits, key_start, ClosesInnermost, QuotedLexeme, Given}
 use Rattle.granit_machine.specs.Reader.{is_end_kind}
 
-pub end_sort : (h : Here) (l : Laid) (x : Lexeme) (sort : LexemeSort) → SaysOf sort h l x → is_end_kind x.kind ≡ true
-    → sort ≡ TextEnd
-end_sort h l x TextEnd s e = refl
-end_sort h l x StartMark s e = kind_not_end _ x s.0.is refl e
-end_sort h l x EndMark s e = kind_not_end _ x s.0.is refl e
-end_sort h l x DirectiveSign s e = kind_not_end _ x s.1.is refl e
-end_sort h l x Unprintable s e = absurd s
-end_sort h l x (Placed (OpenSign bracket)) s e = kind_not_end _ x s.is refl e
-end_sort h l x (Placed (CloseSign bracket)) s e = kind_not_end _ x s.0.is refl e
-end_sort h l x (Placed CommaSign) s e = kind_not_end _ x s.is refl e
-end_sort h l x (Placed DashSign) s e = kind_not_end _ x s.0.is refl e
-end_sort h l x (Placed QuestionSign) s e = kind_not_end _ x s.0.is refl e
-end_sort h l x (Placed ColonSign) s e = kind_not_end _ x s.0 refl e
-end_sort h l x (Placed AliasSign) s e = kind_not_end _ x s.1.is refl e
-end_sort h l x (Placed AnchorSign) s e = kind_not_end _ x s.1.is refl e
-end_sort h l x (Placed TagSign) s e = kind_not_end _ x s.2.is refl e
-end_sort h l x (Placed (BlockSign literal)) s e = kind_not_end _ x s.2.is refl e
-end_sort h l x (Placed (QuoteSign single)) s e = kind_not_end _ x s.2.is refl e
-end_sort h l x (Placed PlainSign) s e = kind_not_end _ x s.2.is refl e
-end_sort h l x (Placed StrayMark) s e = absurd s
-end_sort h l x (Placed NoSign) s e = absurd s
-
 -- what is told of a lexeme by what stands in front of it
 pub record Told (h : Here) (l : Laid) (x : Lexeme) : Type 0 where
   pub number : x.number ≡ l.number
@@ -106,6 +84,28 @@ SaysOf EndMark h l x = Unkeyed DocumentEnd x × (l.brackets ≡ [])
 SaysOf DirectiveSign h l x = (d : DirectiveKind) × Unkeyed (Directive d) x
 SaysOf Unprintable h l x = ⊥
 SaysOf (Placed sort) h l x = Says sort h l x
+
+pub end_sort : (h : Here) (l : Laid) (x : Lexeme) (sort : LexemeSort) → SaysOf sort h l x → is_end_kind x.kind ≡ true
+    → sort ≡ TextEnd
+end_sort h l x TextEnd s e = refl
+end_sort h l x StartMark s e = kind_not_end _ x s.0.is refl e
+end_sort h l x EndMark s e = kind_not_end _ x s.0.is refl e
+end_sort h l x DirectiveSign s e = kind_not_end _ x s.1.is refl e
+end_sort h l x Unprintable s e = absurd s
+end_sort h l x (Placed (OpenSign bracket)) s e = kind_not_end _ x s.is refl e
+end_sort h l x (Placed (CloseSign bracket)) s e = kind_not_end _ x s.0.is refl e
+end_sort h l x (Placed CommaSign) s e = kind_not_end _ x s.is refl e
+end_sort h l x (Placed DashSign) s e = kind_not_end _ x s.0.is refl e
+end_sort h l x (Placed QuestionSign) s e = kind_not_end _ x s.0.is refl e
+end_sort h l x (Placed ColonSign) s e = kind_not_end _ x s.0 refl e
+end_sort h l x (Placed AliasSign) s e = kind_not_end _ x s.1.is refl e
+end_sort h l x (Placed AnchorSign) s e = kind_not_end _ x s.1.is refl e
+end_sort h l x (Placed TagSign) s e = kind_not_end _ x s.2.is refl e
+end_sort h l x (Placed (BlockSign literal)) s e = kind_not_end _ x s.2.is refl e
+end_sort h l x (Placed (QuoteSign single)) s e = kind_not_end _ x s.2.is refl e
+end_sort h l x (Placed PlainSign) s e = kind_not_end _ x s.2.is refl e
+end_sort h l x (Placed StrayMark) s e = absurd s
+end_sort h l x (Placed NoSign) s e = absurd s
 
 -- ---- what is left
 
