@@ -60,8 +60,10 @@ impl<'input> ParserState<'input> {
         match &self.properties {
             None => self.frames.replace(frame),
             Some(_) => {
+                // a copy: what is lent to a call is filled in memory on either way
+                let own = frame;
                 self.properties = None;
-                self.frames.push(frame)
+                self.frames.push(own)
             }
         }
     }
@@ -245,7 +247,7 @@ impl<'input> ParserState<'input> {
             (bears (event_kind event.entry)) (ends.empty_span mark) None self.old)) }
         ensures kept { self.new.kept ≡ self.old.kept }
     {
-        self.node_event(options, event, mark, mark, None)?;
+        self.node_event(options, event, &mark, &mark, None)?;
         self.finish()
     }
 }
@@ -292,7 +294,7 @@ impl<'input> ParserState<'input> {
             (record { start = start; end = end }) (frame_view frame) self.old) }
         ensures kept { self.new.kept ≡ self.old.kept }
     {
-        self.node_event(options, event, start, end, None)?;
+        self.node_event(options, event, &start, &end, None)?;
         self.push_frame(frame)
     }
 

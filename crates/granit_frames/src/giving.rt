@@ -244,20 +244,20 @@ impl<'input> ParserState<'input> {
         &mut self,
         options: &Options,
         event: Event<'input>,
-        start: Marker,
-        end: Marker,
+        start: &Marker,
+        end: &Marker,
         indent: Option<usize>,
     ) -> Result<(), NoMemory>
         ensures event { OnOk result (self.new ≡ giving.node_event (options_of options.now)
-            (bears (event_kind event.entry)) (record { start = start; end = end }) indent self.old) }
+            (bears (event_kind event.entry)) (record { start = start.now; end = end.now }) indent self.old) }
         ensures bare { OnOk result (has_properties self.new.frames ≡ false) }
         ensures kept { self.new.kept ≡ self.old.kept }
     {
         match &self.properties {
             None => self.bare_event(event, start, end, indent),
             Some(_) => {
-                let properties = self.take_properties(end);
-                self.node_event_by(options, properties, event, start, end, indent)
+                let properties = self.take_properties(*end);
+                self.node_event_by(options, properties, event, *start, *end, indent)
             }
         }
     }
@@ -267,13 +267,13 @@ impl<'input> ParserState<'input> {
     fn bare_event(
         &mut self,
         mut event: Event<'input>,
-        start: Marker,
-        end: Marker,
+        start: &Marker,
+        end: &Marker,
         indent: Option<usize>,
     ) -> Result<(), NoMemory>
         ensures leaves { OnOk result (self.new ≡ giving.give (record {
           kind = bears (event_kind event.entry) 0 None;
-          span = giving.span_with_tag None (record { start = start; end = end })
+          span = giving.span_with_tag None (record { start = start.now; end = end.now })
               (giving.key_indent self.old.frames indent);
         }) self.old) }
         ensures kept { self.new.kept ≡ self.old.kept }
@@ -285,12 +285,12 @@ impl<'input> ParserState<'input> {
             drop(event);
             return Err(NoMemory);
         }
-        self.last_end = end;
+        self.last_end = *end;
         if self.given.reserve(1).is_err() {
             drop(event);
             return Err(NoMemory);
         }
-        let mut span = Span::new(start, end);
+        let mut span = Span::new(*start, *end);
         span.indent = column;
         self.given.push_back_reserved((event, span));
         Ok(())

@@ -50,8 +50,8 @@ fn leaf<'input>(
     state.node_event(
         options,
         event,
-        token.lexeme.shown_start,
-        token.lexeme.shown_end,
+        &token.lexeme.shown_start,
+        &token.lexeme.shown_end,
         indent,
     )?;
     state.finish()

@@ -1,5 +1,5 @@
 -- What one read gives of the lexeme that stands, and what it leaves.
-pub use Rattle.granit_reading.proofs.SortAnswers.{sort_answers}
+pub use Rattle.granit_reading.proofs.SortAnswers.{kind_not_end, sort_answers}
 pub use Rattle.granit_reading.proofs.ReadAnswers.{by_answers}
 pub use Rattle.granit_reading.proofs.ReadingLaw.{ReadsBy, lexed, read-is, stops_there}
 pub use Rattle.granit_reading.proofs.Answering.{Answers}

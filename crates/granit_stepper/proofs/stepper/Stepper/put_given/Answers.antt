@@ -18,5 +18,5 @@ returns-clause-same g c =
     } in
     ap (λ (p : ParserState). record inside { parser = p }) (c.in_ok-put_before.ensures.put
     ∙ ap (λ (es : List PlainEvent). record (inside.parser) { given = es ++ inside.parser.given })
-    (ap plain_events (c.from.ensures.0 ∙ c.clear.ensures.items)))
+    (ap plain_events (c.from.ensures.0 ∙ c.clear_events.ensures)))
     ∙ c.self.view_is
