@@ -1,4 +1,5 @@
 pub mod AnswerLemmas
+pub mod CountLemmas
 pub mod Known
 pub mod RunLemmas
 pub mod UnderstoodLemmas

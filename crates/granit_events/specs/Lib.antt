@@ -8,5 +8,6 @@ pub mod Output
 pub mod Ran
 pub mod SelfTest
 pub mod Tested
+pub mod TreeNumbers
 pub mod Understood
 pub mod Wrote

@@ -1,7 +1,7 @@
 -- What the words `selftest SEED SIZE` call for.
 use Rattle.std.specs.Prelude.{◌≡◌, ℕ, List}
 use Rattle.granit_base.specs.Written.{Written}
-use Rattle.granit_selftest.specs.SelfTest.{selftest_line}
+use Rattle.granit_events.specs.TreeNumbers.{selftest_line}
 use Rattle.granit_words.specs.Asking.{Ask, AskWrongAt}
 use Rattle.granit_words.specs.Words.{spelled, usage_line}
 use Rattle.granit_events.specs.declared.status.Status.{Status}

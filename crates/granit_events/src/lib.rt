@@ -2,6 +2,7 @@
 #![tactic(auto)]
 
 mod answering;
+mod counting;
 mod ends;
 mod filling;
 mod input;

@@ -8,12 +8,12 @@ ghost use Rattle.granit_events.specs.SelfTest.{SelfTests};
 ghost use Rattle.granit_events.specs.Tested.{MayEnd};
 ghost use Rattle.granit_events.specs.declared.status.Status.TheVariants as status;
 
+use crate::counting::selftest_line;
 use crate::ends::Sink;
 use crate::saying;
 use crate::status::Status;
 use crate::writing::write_all;
 use granit_base::{NoMemory, TextList};
-use granit_selftest::selftest_line;
 use granit_words::read_asked;
 use std::alloc::Global;
 

@@ -2,7 +2,7 @@ use Rattle.std.proofs.Common.{length, ap, sym, ◌∙◌}
 use Rattle.std.proofs.lemmas.Str.{encodes-chars}
 use Rattle.std.specs.Str.{encode_utf8_all}
 use Rattle.granit_base.specs.Written.{Written}
-use Rattle.granit_selftest.proofs.counting.read_back.Goals as goal
+use Rattle.granit_events.proofs.counting.read_back.Goals as goal
 
 pub returns-in-Ok-clause-bytes : goal.returns-in-Ok-clause-bytes
 returns-in-Ok-clause-bytes c =

@@ -1,7 +1,7 @@
 //! The numbers of generated trees, of their text and of what it is read as.
 ghost use Rattle.std.specs.Prelude.{◌≡◌, ◌≤◌, IfOk, string_bytes};
 ghost use Rattle.granit_model.specs.Tree.{DocumentsFit, trees_depth};
-ghost use Rattle.granit_selftest.specs.SelfTest.{flow_byte_count, selftest_line, text_events};
+ghost use Rattle.granit_events.specs.TreeNumbers.{flow_byte_count, selftest_line, text_events};
 
 use granit_base::NoMemory;
 use granit_error::{ErrorKind, Options};
@@ -36,7 +36,7 @@ fn read_back(alloc: Global, trees: &TreeList) -> Result<(usize, usize), NoMemory
 /// # Errors
 ///
 /// `NoMemory` alone.
-#[tactic(auto, unfolding(crate::specs::SelfTest::selftest_line))]
+#[tactic(auto, unfolding(crate::specs::TreeNumbers::selftest_line))]
 pub fn selftest_line(alloc: Global, seed: u32, size: u32) -> Result<String, NoMemory>
     ensures { IfOk result (λ line. string_bytes line ≡ selftest_line seed size) }
 {
