@@ -9,7 +9,8 @@ ghost use Rattle.granit_error.specs.FaultKind.{InvalidTagUtf8LeadingByte, Invali
 ghost use Rattle.granit_error.specs.FaultKind.{MissingDirectiveName, MissingYamlVersion, MissingYamlVersionSeparator};
 ghost use Rattle.granit_error.specs.FaultKind.{TooManyReservedDirectiveParams, UnexpectedCharacter, YamlVersionTooLong};
 ghost use Rattle.granit_lexemes.specs.Lexeme.{Version, TagPrefix, Reserved};
-ghost use Rattle.granit_name_examples.specs.Examples.{directive_seen, few_bytes, few_words, line_seen, directives_refused};
+ghost use Rattle.granit_name_examples.specs.Examples.{directive_seen, few_bytes, few_words, line_seen};
+ghost use Rattle.granit_name_examples.specs.Examples.{directives_refused};
 
 /// Directives.
 pub fn directives_of_the_examples()

@@ -10,7 +10,8 @@ ghost use Rattle.granit_lexemes.specs.declared.layout.Bracket.TheVariants.{Curly
 ghost use Rattle.granit_lexemes.specs.declared.layout.LastLexeme.TheVariants.{Another, BehindDash, BehindQuestion};
 ghost use Rattle.granit_lexemes.specs.declared.layout.LastLexeme.TheVariants.{Opener};
 ghost use Rattle.granit_machine.specs.Laid.{laid_start};
-ghost use Rattle.granit_read_answers.specs.Examples.{Caused, Uncaused, after_characters, first_key, in_bracket, in_column};
+ghost use Rattle.granit_read_answers.specs.Examples.{Caused, Uncaused, after_characters, first_key};
+ghost use Rattle.granit_read_answers.specs.Examples.{in_bracket, in_column};
 ghost use Rattle.std.specs.Prelude.{[], ◌∷◌, ◌++◌, codes};
 
 /// Where an entry may begin.

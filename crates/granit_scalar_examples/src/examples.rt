@@ -1,5 +1,5 @@
 //! Worked examples of the plain scalar, by computation. Each line is the original's token of that text,
-//! or its fault; what is rest_behind a scalar comes from the plain machine of the whole language.
+//! or its fault; what is behind a scalar comes from the plain machine of the whole language.
 ghost use Rattle.std.specs.Prelude.{◌≡◌, [], ◌∷◌, ◌++◌, codes, Some, None, true, false};
 ghost use Rattle.granit_scalar_examples.specs.Examples.{FailsPlain, ReadsPlain, block_flow, plain_in_block, layout};
 ghost use Rattle.granit_scalar_examples.specs.Examples.{plain_at_root, plain_at_root_flow, behind_line, plain_line};
@@ -69,7 +69,7 @@ pub fn tabs_of_the_examples()
         "fault 72: while scanning a plain scalar, found a tab" " at char 4 line 1 column 5\n" }
 {}
 
-/// Comments rest_behind it.
+/// Comments behind it.
 pub fn comments_of_the_examples()
     ensures after_a_blank { ReadsPlain plain_in_block 3 "k: a #c\n" "Scalar plain \"a\" 3:1:4-4:1:5\n" }
     ensures after_a_tab { ReadsPlain plain_in_block 3 "k: a\t#c\n" "Scalar plain \"a\" 3:1:4-4:1:5\n" }
@@ -79,7 +79,7 @@ pub fn comments_of_the_examples()
     ensures in_flow { ReadsPlain plain_at_root_flow 1 "[a #c\n]" "Scalar plain \"a\" 1:1:2-2:1:3\n" }
 {}
 
-/// The end of the text inside and rest_behind it.
+/// The end of the text inside and behind it.
 pub fn stops_of_the_examples()
     ensures at_the_end { ReadsPlain plain_in_block 3 "k: a" "Scalar plain \"a\" 3:1:4-4:1:5\n" }
     ensures behind_blanks { ReadsPlain plain_in_block 3 "k: a \t" "Scalar plain \"a\" 3:1:4-4:1:5\n" }
@@ -138,7 +138,7 @@ pub fn examples_of_the_specification()
         "Scalar plain \"1st non-empty\\n2nd non-empty 3rd non-empty\" 0:1:1-45:4:15\n" }
 {}
 
-/// Where reading stands rest_behind a scalar, whether a break was read, and the `#` that cut it short.
+/// Where reading stands behind a scalar, whether a break was read, and the `#` that cut it short.
 pub fn places_behind_the_examples()
     ensures blanks { behind_line plain_in_block (codes "k: a  ") 3 ≡ rest_behind 6 1 6 None false }
     ensures breaks { behind_line plain_in_block (codes "k: a \n \nb: c") 3 ≡ rest_behind 8 3 0 None true }
