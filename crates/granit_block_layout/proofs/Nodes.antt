@@ -267,7 +267,7 @@ module _ (o : OptionsData) (x : List ℕ) where
   pub empty_read : (d : Bracket) (cs : List ℕ) (reach : ℕ) (p : Properties) (next : List ℕ) (s : ReaderState)
       (a : Anchors) → Starts next → CanStand p → 0 < o.flow_nesting_limit
       → Ready x (properties_text p (opener_char d ∷ closer_char d ∷ ((0x0A ∷ indent (one_less reach) []) ++ next)))
-          [] cs
+      [] cs
       (OnLine (bound cs)) s
       → NodeRead o x cs reach next s a (past_anchor p.anchor a)
       (λ more. node_tells o a p.tag p.anchor (opening d) (ending d ∷ more))
