@@ -60,6 +60,10 @@ is_printable c =
     ((((c == 0x09 || is_break c) || is_within 0x20 0x7E c) || (c == 0x85 || is_within 0xA0 0xD7FF c))
     || is_within 0xE000 0xFFFD c) || is_within 0x10000 0x10FFFF c
 
+-- a printable character but breaks and NUL: what a comment, and a line, is made of
+abbrev pub is_line_char : ℕ → Bool
+is_line_char c = not (is_breakz c) && is_printable c
+
 -- printable, neither a break nor the byte-order mark (5.4)
 unfoldable pub is_yaml_non_break : ℕ → Bool
 is_yaml_non_break c = (is_printable c && not (is_break c)) && not (is_bom c)

@@ -1,5 +1,6 @@
 pub mod Classes
 pub mod Counts
+pub mod DocumentMark
 pub mod Place
 pub mod PlainContent
 pub mod Spans

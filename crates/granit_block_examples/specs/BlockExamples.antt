@@ -1,26 +1,22 @@
 -- Words of the worked examples of block scalars.
-use Rattle.std.specs.Prelude.{ℕ, Bool, List, [], ◌++◌, codes, take, Option, Some, None, Result, Ok, Err}
-use Rattle.std.specs.Fmt.{decimal}
+use Rattle.std.specs.Prelude.{ℕ, Bool, List, ◌++◌, codes, take, Option, None, Result, Ok, Err}
 use Rattle.granit_lexemes.specs.Here.{Here, start_of}
 use Rattle.granit_lexemes.specs.Line.{in_quotes, style_word, place_line, fault_line}
 use Rattle.granit_lexemes.specs.Outcome.{Fault}
 use Rattle.granit_lexemes.specs.PlainExtent.{over}
 use Rattle.granit_lexemes.specs.BlockScalar.{block_style, BlockGiven, block_scalar}
+use Rattle.granit_machine.specs.Items.{indent_words}
 use Rattle.granit_scalar_examples.specs.QuotedExamples.{comment_text}
 
 -- the block scalar that begins at an index of a text
 abbrev pub block_in : (literal : Bool) → (block : Option ℕ) → List ℕ → ℕ → Result (BlockGiven × Here) Fault
 block_in literal block text index = block_scalar literal block (over (take index text) (start_of text))
 
-abbrev pub indent_in_words : Option ℕ → List ℕ
-indent_in_words None = []
-indent_in_words (Some n) = codes " indent=" ++ decimal n
-
 abbrev pub block_token_line : Bool → Result (BlockGiven × Here) Fault → List ℕ
 block_token_line literal (Ok (given, after)) =
     codes "Scalar " ++ style_word (block_style literal) ++ codes " " ++ in_quotes given.read.text.characters
     ++ codes " " ++ place_line given.read.shown.place ++ codes "-" ++ place_line after.place
-    ++ indent_in_words given.read.indent
+    ++ indent_words given.read.indent
     ++ codes "\n"
 block_token_line literal (Err f) = fault_line f
 

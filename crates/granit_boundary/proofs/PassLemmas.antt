@@ -1,33 +1,32 @@
 -- What is passed on the way to a boundary.
-use Rattle.std.proofs.Common.{◌≡◌, ℕ, zero, suc, ◌+◌, ◌<◌, ◌≤◌, ◌==◌, ◌&&◌, ◌||◌, Bool, true, false, List, [], ◌∷◌}
+use Rattle.std.proofs.Common.{◌≡◌, ℕ, zero, suc, ◌+◌, ◌≤◌, ◌==◌, ◌&&◌, ◌||◌, Bool, true, false, List, [], ◌∷◌}
 use Rattle.std.proofs.Common.{length, drop, Option, Some, None, ◌⊎◌, inl, inr, refl, sym, ap, ap₂, subst, ◌∙◌, arith}
-use Rattle.std.proofs.lemmas.Bool.{and_parts}
+use Rattle.std.proofs.lemmas.Bool.{and_parts, eqb-true, eq-eqb}
 use Rattle.std.specs.Prelude.{if◌then◌else◌, slice_index}
 use Rattle.std.proofs.lemmas.Bool.Decides.{nat_tests}
+use Rattle.std.proofs.lemmas.List.{nil_from_length}
 use Rattle.granit_base.specs.Classes.{is_blank, is_bom, is_break}
 use Rattle.granit_base.specs.Place.{first}
 use Rattle.granit_boundary.specs.Found.{FinishesTo, Within, line_ends_here}
-use Rattle.granit_cursor.proofs.MoveLemmas.{run_begins}
+use Rattle.granit_cursor.proofs.MoveLemmas.{run_begins, not_none}
 use Rattle.granit_input.specs.Looks.{begins_with_3}
 use Rattle.granit_runs.specs.Runs.{is_quoted_char, run_length, starts}
+use Rattle.granit_lexemes.proofs.CharTests.{hash_no_blank, bom_is}
 use Rattle.granit_lexemes.proofs.HereLemmas.{no_line_end, not_empty, step_text}
-use Rattle.granit_lexemes.specs.Comment.{is_comment_char}
+use Rattle.granit_lexemes.specs.Comment.{is_line_char}
 use Rattle.granit_lexemes.specs.Here.{Here, next_char, step, text_len}
 use Rattle.granit_lexemes.specs.Moves.{past_prefix_mark, steps}
+use Rattle.granit_restart.proofs.BoundaryLaws.{dropped_text}
 use Rattle.granit_restart.specs.Boundary.{Boundary, AtStart, PastEnd, AtTextEnd, is_separated, is_mark_of, past_note}
 use Rattle.granit_restart.specs.Boundary.{finished_line, past_end, mark_here, boundary_here, over_dropped, boundary_or}
 use Rattle.granit_restart.specs.Boundary.{boundary_in, next_boundary}
 
 -- ---- one character
 
-empty_by : (text : List ℕ) → (length text == 0) ≡ true → text ≡ []
-empty_by [] e = refl
-empty_by (c ∷ cs) e = absurd (let f = not_empty c cs in cc)
-
 -- at the end of the text
 pub at_end : (h : Here) → (text_len h == 0) ≡ true → next_boundary h ≡ AtTextEnd h
 unfolding next_boundary
-at_end h e = ap (λ (t : List ℕ). boundary_in t h) (empty_by h.unread.text e)
+at_end h e = ap (λ (t : List ℕ). boundary_in t h) (nil_from_length h.unread.text (eqb-true (length h.unread.text) 0 e))
 
 -- a first character
 record Begun (text : List ℕ) : Type 0 where
@@ -38,16 +37,6 @@ record Begun (text : List ℕ) : Type 0 where
 begun : (text : List ℕ) → (length text == 0) ≡ false → Begun text
 begun [] e = absurd (cc)
 begun (c ∷ cs) e = record { first_one = c; rest = cs; spelled = refl }
-
-dropped_if : (b : Bool) (h : Here) (cs : List ℕ) → (past_prefix_mark h).unread.text ≡ cs → (step h).unread.text ≡ cs
-    → (if b then past_prefix_mark h else step h).unread.text ≡ cs
-dropped_if true h cs p q = p
-dropped_if false h cs p q = q
-
-dropped_text : (c : ℕ) (cs : List ℕ) (h : Here) → h.unread.text ≡ c ∷ cs → (over_dropped h).unread.text ≡ cs
-unfolding past_prefix_mark
-dropped_text c cs h e = dropped_if (h.place.column == 0 && is_bom (next_char h)) h cs
-    (ap (λ (t : List ℕ). drop 1 t) e ∙ refl) (step_text h ∙ ap (λ (t : List ℕ). drop 1 t) e ∙ refl)
 
 -- where no boundary stands, the next one is that behind what is dropped
 none_here : (c : ℕ) (cs : List ℕ) (h : Here) → h.unread.text ≡ c ∷ cs → boundary_here (c ∷ cs) h ≡ None
@@ -68,14 +57,11 @@ pub inside_here : (h : Here) → (text_len h == 0) ≡ false → (h.place.column
     → next_boundary (step h) ≡ next_boundary h
 inside_here h some column = let b = begun h.unread.text some in inside b.first_one b.rest h b.spelled column
 
-zero_is : (n : ℕ) → n ≡ 0 → (n == 0) ≡ true
-zero_is n e = ap (λ m. m == 0) e
-
 -- in column 0, where no mark stands
 beginning : (c : ℕ) (cs : List ℕ) (h : Here) → h.unread.text ≡ c ∷ cs → h.place.column ≡ 0
     → is_bom (next_char h) ≡ false → mark_here (c ∷ cs) h ≡ None → next_boundary (step h) ≡ next_boundary h
 beginning c cs h e column bom none =
-    let is = zero_is h.place.column column in
+    let is = eq-eqb h.place.column 0 column in
     sym (ap₂ (λ a b. next_boundary (if a && b then past_prefix_mark h else step h)) is bom)
     ∙ none_here c cs h e (ap (λ b. if b then mark_here (c ∷ cs) h else None) is ∙ none)
 
@@ -92,17 +78,13 @@ no_mark text h a b =
     ap₂ (λ x y. if x then Some (AtStart h) else if y then past_end (finished_line (drop 3 text) (steps 3 h)) else None)
     a b
 
-pub bom_is : (c : ℕ) → is_bom c ≡ true → c ≡ 0xFEFF
-unfolding is_bom
-bom_is c e = grind (arith, nat_tests)
-
 pub prefix_here : (h : Here) → (text_len h == 0) ≡ false → h.place.column ≡ 0 → is_bom (next_char h) ≡ true
     → next_boundary (past_prefix_mark h) ≡ next_boundary h
 prefix_here h some column bom =
     let t = begun h.unread.text some in
     let front : next_char h ≡ t.first_one = ap (λ (x : List ℕ). slice_index x 0) t.spelled in
     let mark : t.first_one ≡ 0xFEFF = bom_is t.first_one (ap is_bom (sym front) ∙ bom) in
-    let is = zero_is h.place.column column in
+    let is = eq-eqb h.place.column 0 column in
     sym (ap₂ (λ a b. next_boundary (if a && b then past_prefix_mark h else step h)) is bom)
     ∙ none_here t.first_one t.rest h t.spelled (ap (λ b. if b then mark_here (t.first_one ∷ t.rest) h else None) is
     ∙ no_mark (t.first_one ∷ t.rest) h (no_mark_at 0x2D t.first_one t.rest (ap (λ d. d == 0x2D) mark))
@@ -136,9 +118,6 @@ within_both h k m a b = λ column.
     let two = b one.0 in
     (two.0, two.1 ∙ one.1)
 
-length_some : (n : ℕ) → 0 < n → (n == 0) ≡ false
-length_some n some = grind (arith, nat_tests, some)
-
 -- a run of a line
 abbrev pub NoBreaks : (List ℕ → Bool) → Type 0
 NoBreaks test = (text : List ℕ) → test text ≡ true → is_break (first text) ≡ false
@@ -150,13 +129,10 @@ run_within test zero h line fits = within_none h
 run_within test (suc n) h line fits =
     let b = run_begins test n h.unread.text fits in
     within_both h (step h) (steps n (step h))
-    (within_step h (length_some (length h.unread.text) b.some) (line h.unread.text b.passes))
+    (within_step h (not_none (length h.unread.text) b.some) (line h.unread.text b.passes))
     (run_within test n (step h) line (rw (step_text h) b.more))
 
 -- ---- three characters
-
-equal : (a b : ℕ) → (a == b) ≡ true → a ≡ b
-equal a b e = grind (arith, nat_tests)
 
 same : (a : ℕ) → (a == a) ≡ true
 same a = grind (arith, nat_tests)
@@ -173,9 +149,9 @@ three s (a ∷ b ∷ c ∷ cs) none e =
     let all = (and_parts (a == s && b == s) (c == s) e).0 in
     record {
       rest = cs;
-      spelled = ap₂ (λ x (t : List ℕ). x ∷ t) (equal a s (and_parts (a == s) (b == s) all).0)
-          (ap₂ (λ x (t : List ℕ). x ∷ t) (equal b s (and_parts (a == s) (b == s) all).1)
-          (ap (λ x. x ∷ cs) (equal c s (and_parts (a == s && b == s) (c == s) e).1)));
+      spelled = ap₂ (λ x (t : List ℕ). x ∷ t) (eqb-true a s (and_parts (a == s) (b == s) all).0)
+          (ap₂ (λ x (t : List ℕ). x ∷ t) (eqb-true b s (and_parts (a == s) (b == s) all).1)
+          (ap (λ x. x ∷ cs) (eqb-true c s (and_parts (a == s && b == s) (c == s) e).1)));
     }
 
 steps_text : (a b c : ℕ) (cs : List ℕ) (h : Here) → h.unread.text ≡ a ∷ b ∷ c ∷ cs → (steps 3 h).unread.text ≡ cs
@@ -225,7 +201,7 @@ start_found h column sign separated =
     ap is_separated (sym (steps_text 0x2D 0x2D 0x2D t.rest h t.spelled)) ∙ separated in
     let text = 0x2D ∷ 0x2D ∷ 0x2D ∷ t.rest in
     found_in text h (AtStart h) t.spelled
-    (ap (λ b. if b then mark_here text h else None) (zero_is h.place.column column)
+    (ap (λ b. if b then mark_here text h else None) (eq-eqb h.place.column 0 column)
     ∙ ap (λ b. if b then Some (AtStart h) else if is_mark_of 0x2E text then past_end
     (finished_line (drop 3 text) (steps 3 h)) else None) (marked 0x2D t.rest ∙ behind))
 
@@ -274,7 +250,7 @@ end_found h k column sign separated line =
     let t = three 0x2E h.unread.text refl sign in
     let text = 0x2E ∷ 0x2E ∷ 0x2E ∷ t.rest in
     found_in text h (PastEnd k) t.spelled
-    (ap (λ b. if b then mark_here text h else None) (zero_is h.place.column column)
+    (ap (λ b. if b then mark_here text h else None) (eq-eqb h.place.column 0 column)
     ∙ line_passed h t.rest t.spelled separated (Some k) line)
 
 pub end_passed : (h k : Here) → h.place.column ≡ 0 → begins_with_3 0x2E 0x2E 0x2E h.unread.text ≡ true
@@ -320,29 +296,29 @@ pub within_line : (h : Here) → line_ends_here h.unread.text ≡ false → With
 within_line h e = let g = goes_on h.unread.text e in within_step h g.0 g.1
 
 note_by : (text : List ℕ) (h : Here) → h.unread.text ≡ text → line_ends_here text ≡ false
-    → is_comment_char (first text) ≡ true → past_note (step h).unread.text (step h) ≡ past_note text h
+    → is_line_char (first text) ≡ true → past_note (step h).unread.text (step h) ≡ past_note text h
 note_by [] h is e note = absurd (cc)
 note_by (c ∷ cs) h is e note =
     ap (λ (t : List ℕ). past_note t (step h)) (step_text h ∙ ap (λ (t : List ℕ). drop 1 t) is)
     ∙ sym (ap₂ (λ a b. if a then Some h else if b then past_note cs (step h) else None) e note)
 
-pub note_goes : (h : Here) → line_ends_here h.unread.text ≡ false → is_comment_char (next_char h) ≡ true
+pub note_goes : (h : Here) → line_ends_here h.unread.text ≡ false → is_line_char (next_char h) ≡ true
     → past_note (step h).unread.text (step h) ≡ past_note h.unread.text h
 note_goes h e note = note_by h.unread.text h refl e note
 
-note_none : (text : List ℕ) (h : Here) → line_ends_here text ≡ false → is_comment_char (first text) ≡ false
+note_none : (text : List ℕ) (h : Here) → line_ends_here text ≡ false → is_line_char (first text) ≡ false
     → past_note text h ≡ None
 note_none [] h e note = absurd (cc)
 note_none (c ∷ cs) h e note =
     ap₂ (λ a b. if a then Some h else if b then past_note cs (step h) else None) e note
 
-pub note_stops : (h : Here) → line_ends_here h.unread.text ≡ false → is_comment_char (next_char h) ≡ false
+pub note_stops : (h : Here) → line_ends_here h.unread.text ≡ false → is_line_char (next_char h) ≡ false
     → past_note h.unread.text h ≡ None
 note_stops h e note = note_none h.unread.text h e note
 
 note_end : (text : List ℕ) (h : Here) → line_ends_here text ≡ true → past_note text h ≡ Some h
 note_end [] h e = refl
-note_end (c ∷ cs) h e = ap (λ a. if a then Some h else if is_comment_char c then past_note cs (step h) else None) e
+note_end (c ∷ cs) h e = ap (λ a. if a then Some h else if is_line_char c then past_note cs (step h) else None) e
 
 pub note_ends : (h : Here) → line_ends_here h.unread.text ≡ true → past_note h.unread.text h ≡ Some h
 note_ends h e = note_end h.unread.text h e
@@ -367,10 +343,6 @@ blank_by (c ∷ cs) h is e blank =
 pub blank_goes : (h : Here) → line_ends_here h.unread.text ≡ false → is_blank (next_char h) ≡ true
     → finished_line (step h).unread.text (step h) ≡ finished_line h.unread.text h
 blank_goes h e blank = blank_by h.unread.text h refl e blank
-
-hash_no_blank : (c : ℕ) → c ≡ 0x23 → is_blank c ≡ false
-unfolding is_blank
-hash_no_blank c e = ap (λ d. d == 0x20 || d == 0x09) e
 
 hash_by : (text : List ℕ) (h : Here) → h.unread.text ≡ text → line_ends_here text ≡ false → first text ≡ 0x23
     → past_note (step h).unread.text (step h) ≡ finished_line text h
@@ -407,8 +379,8 @@ unfolding is_break
 break_is c e = by (c == 0x0A) refl e
   where
     by : (a : Bool) → (c == 0x0A) ≡ a → (a || c == 0x0D) ≡ true → (c ≡ 0x0A) ⊎ (c ≡ 0x0D)
-    by true is all = inl (equal c 0x0A is)
-    by false is all = inr (equal c 0x0D all)
+    by true is all = inl (eqb-true c 0x0A is)
+    by false is all = inr (eqb-true c 0x0D all)
 
 not_quoted : (c : ℕ) → (c ≡ 0x0A) ⊎ (c ≡ 0x0D) → is_quoted_char true c ≡ true → ⊥
 not_quoted c (inl is) e = let f : is_quoted_char true 0x0A ≡ true = ap (is_quoted_char true) (sym is) ∙ e in absurd (cc)

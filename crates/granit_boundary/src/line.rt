@@ -2,7 +2,7 @@
 ghost use Rattle.std.specs.Prelude.{◌≡◌, ◌≤◌, false};
 ghost use Rattle.granit_boundary.specs.Found.{FinishesTo, line_ends_here};
 ghost use Rattle.granit_cursor.specs.Reading.{GoesTo, Moves, Stands, Wherever};
-ghost use Rattle.granit_lexemes.specs.Comment.{is_comment_char};
+ghost use Rattle.granit_lexemes.specs.Comment.{is_line_char};
 ghost use Rattle.granit_lexemes.specs.Here.{Here};
 ghost use Rattle.granit_restart.specs.Boundary as spec;
 
@@ -77,7 +77,7 @@ fn note_finishes<T: Input>(cursor: &mut Cursor<T>) -> bool
 
 /// Whether a character may stand in a comment.
 fn is_note(c: char) -> bool
-    ensures { result ≡ is_comment_char c }
+    ensures { result ≡ is_line_char c }
 {
     !is_breakz(c) && is_printable(c)
 }

@@ -5,6 +5,7 @@ use Rattle.std.proofs.lemmas.Bool.{cases_Bool, eqb-true}
 use Rattle.granit_base.specs.Classes.{is_blank, is_break, is_breakz, is_gap, is_bom}
 use Rattle.granit_base.specs.Place.{Mark, first}
 use Rattle.granit_error.specs.OptionsData.{OptionsData}
+use Rattle.granit_lexemes.proofs.CharTests.{blank_gap}
 use Rattle.granit_lexemes.specs.Comment.{CommentRead, comment}
 use Rattle.granit_lexemes.specs.Here.{Here, next_char, mark_of, step, skip, past}
 use Rattle.granit_lexemes.specs.Moves.{past_prefix_mark}
@@ -92,10 +93,6 @@ unfolding past
 gap_behind test in_gap may h = skip_on test in_gap may h.unread.text h refl
 
 -- ---- blanks of a gap
-
-blank_gap : (c : ℕ) → is_blank c ≡ true → is_gap c ≡ true
-unfolding is_gap
-blank_gap c held = rw held refl
 
 blank_unmarked : (c : ℕ) → is_blank c ≡ true → is_bom c ≡ false
 unfolding is_blank is_bom

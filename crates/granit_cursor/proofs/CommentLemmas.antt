@@ -7,7 +7,7 @@ use Rattle.granit_base.specs.Written.{Written}
 use Rattle.granit_error.specs.FaultKind.{NoMemory, UnexpectedCharacter}
 use Rattle.granit_error.specs.Refused.{Refused}
 use Rattle.granit_runs.specs.Runs.{run_length, starts, is_line_char}
-use Rattle.granit_lexemes.specs.Comment.{is_comment_char, behind_comment, skipped_comment, comment, comment_read}
+use Rattle.granit_lexemes.specs.Comment.{behind_comment, skipped_comment, comment, comment_read}
 use Rattle.granit_lexemes.specs.Comment.{CommentRead, StandsComment, Spoils, ReadsComment}
 use Rattle.granit_lexemes.specs.Basics.{as_spelled, fails_at}
 use Rattle.granit_lexemes.specs.Here.{Here, text_len, next_char, mark_of, step, chunk, mid_line}
@@ -39,7 +39,7 @@ pub comment_behind : (n : ℕ) (h : Here) → n ≡ run_length (starts is_line_c
     → skipped_comment h ≡ behind_comment (behind_text n h)
 unfolding skipped_comment
 comment_behind n h is = ap (λ (m : ℕ). behind_comment (behind_text m h))
-    (sym (is ∙ run_prefix is_comment_char (step h).unread.text))
+    (sym (is ∙ run_prefix is_line_char (step h).unread.text))
 
 pub comment_fails : (n : ℕ) (h : Here) (e : Refused) → n ≡ run_length (starts is_line_char) (step h).unread.text
     → Fails e (behind_comment (behind_text n h)) → Fails e (coded comment_token (comment h))
@@ -57,10 +57,10 @@ comment_given n h after u t is behind token = ap (λ s. coded comment_token (wit
 
 -- what was taken behind the `#` is the text of the comment
 pub text_of : (n : ℕ) (h : Here) (text : Written) → n ≡ run_length (starts is_line_char) (step h).unread.text
-    → text ≡ as_spelled (step h) (take n (step h).unread.text) → text ≡ as_spelled h (chunk is_comment_char (step h))
+    → text ≡ as_spelled (step h) (take n (step h).unread.text) → text ≡ as_spelled h (chunk is_line_char (step h))
 text_of n h text is taken =
     taken ∙ ap₂ (λ (m : ℕ) (b : Bool). record { characters = take m (step h).unread.text; is_borrowed = b })
-    (is ∙ run_prefix is_comment_char (step h).unread.text) (step_lends h)
+    (is ∙ run_prefix is_line_char (step h).unread.text) (step_lends h)
 
 -- where reading goes on behind the text of a comment, there it ends
 pub behind_same : (h after : Here) (u : Unit {0}) → behind_comment h ≡ Ok (u, after) → after ≡ h

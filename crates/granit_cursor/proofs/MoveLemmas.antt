@@ -2,6 +2,7 @@
 use Rattle.std.proofs.Common.{◌≡◌, ℕ, zero, suc, ◌+◌, ◌<◌, ◌≤◌, ◌==◌, Bool, true, false, not, ◌&&◌, ◌||◌, cond}
 use Rattle.std.proofs.Common.{if◌then◌else◌, List, [], ◌∷◌, length, drop, Option, Some, None, ◌⊎◌, inl, inr, zero-add}
 use Rattle.std.proofs.Common.{refl, sym, ap, ◌∙◌, subst, arith}
+use Rattle.std.proofs.Math.Bool.{and-false, and-true}
 use Rattle.std.specs.Prelude.{String, string_bytes}
 use Rattle.std.specs.Str.{chars}
 use Rattle.std.specs.declared.alloc.Global.{Global}
@@ -121,23 +122,15 @@ run_shows test (suc n) h shows fits =
     let b = run_begins test (suc n) h.unread.text fits in
     run_shows test n (step h) shows (run_rest test (suc n) h b.more)
 
-and_true : (b : Bool) → b ≡ (b && true)
-and_true true = refl
-and_true false = refl
-
-and_false : (b : Bool) → false ≡ (b && false)
-and_false true = refl
-and_false false = refl
-
 -- something is shown where a character was taken
 pub shown : (test : List ℕ → Bool) (n : ℕ) (h : Here) → Shows test → n ≤ run_length test h.unread.text
     → ((steps n h).begins_line ≡ (h.begins_line && n == 0)) × ((steps n h).tab ≡ (if n == 0 then h.tab else None))
 unfolding steps
-shown test zero h shows fits = (and_true h.begins_line, refl)
+shown test zero h shows fits = (sym (and-true h.begins_line), refl)
 shown test (suc n) h shows fits =
     let is = run_shows test n h shows fits in
     let some : (suc n == 0) ≡ false = grind (arith, nat_tests) in
-    rw some (is.0 ∙ and_false h.begins_line, is.1)
+    rw some (is.0 ∙ sym (and-false h.begins_line), is.1)
 
 -- all characters that pass a test are spaces, or blanks
 pub step_blank : (h : Here) → 0 < length h.unread.text → ends_line h.unread.text ≡ false → is_quiet (next_char h) ≡ true

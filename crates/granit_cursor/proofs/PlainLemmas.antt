@@ -3,7 +3,6 @@ use Rattle.std.proofs.Common.{◌≡◌, ℕ, ◌+◌, ◌-◌, ◌<◌, ◌≤�
 use Rattle.std.proofs.Common.{length, take, drop, Option, Some, None, if◌then◌else◌, refl, sym, ap, ap₂, ◌∙◌, subst}
 use Rattle.std.proofs.Common.{arith, zero-add}
 use Rattle.std.specs.Option.{option_map}
-use Rattle.std.proofs.lemmas.Bool.Decides.{nat_tests}
 use Rattle.granit_base.specs.Place.{Mark, Place, Unread, ends_line, first}
 use Rattle.granit_runs.specs.Runs.{is_plain_word, run_length, starts}
 use Rattle.granit_runs.specs.Unread.{past_count, utf8_length}
@@ -17,6 +16,7 @@ use Rattle.granit_lexemes.specs.Onward.{Onward, stepped}
 use Rattle.granit_lexemes.proofs.HereLemmas.{step_text}
 use Rattle.granit_cursor.specs.Plain.{EndsWordsAt}
 use Rattle.granit_cursor.proofs.MoveLemmas.{Along, Spot, StandsAt, is_space, moved, run_along, space_line, spaces_stay}
+use Rattle.granit_cursor.proofs.MoveLemmas.{not_none}
 use Rattle.granit_cursor.proofs.OnwardLemmas.{steps_onward}
 use Rattle.granit_cursor.proofs.WordLemmas.{joined_line, lands_joined, plain_joins}
 
@@ -32,9 +32,6 @@ pub record LineBegun (h now : Here) : Type 0 where
   place : now.place ≡ record { index = h.place.index + 1; line = h.place.line + 1; column = 0 }
   begins_line : now.begins_line ≡ true
   tab : now.tab ≡ None
-
-not_none : (n : ℕ) → 0 < n → (n == 0) ≡ false
-not_none n some = grind (arith, nat_tests, some)
 
 pub over_feed : (h : Here) → next_char h ≡ 0x0A → LineBegun h (step h)
 unfolding step begins_behind tab_behind

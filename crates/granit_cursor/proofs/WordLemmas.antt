@@ -1,6 +1,7 @@
 -- Runs in which a character may leave what is known of the line as it is, where the run goes on behind it.
 use Rattle.std.proofs.Common.{◌≡◌, ◌⊎◌, ℕ, zero, suc, ◌==◌, ◌&&◌, ◌||◌, Bool, true, false, if◌then◌else◌, List, []}
 use Rattle.std.proofs.Common.{◌∷◌, drop, slice_index, Option, None, refl, sym, ap, ◌∙◌, inl, inr, arith}
+use Rattle.std.proofs.Math.Bool.{and-false, and-true}
 use Rattle.std.proofs.lemmas.Bool.{and_parts, cases_Bool, eqb-true}
 use Rattle.std.proofs.lemmas.Bool.Decides.{nat_tests}
 use Rattle.granit_base.specs.Classes.{is_blank, is_blank_or_breakz, is_break, is_breakz, is_z}
@@ -65,23 +66,15 @@ run_ends test (suc n) h joins nul whole =
     run_ends test n (step h) joins nul (whole_rest test (suc n) h.unread.text whole
     ∙ ap (run_length test) (sym (step_text h)))
 
-and_false : (b : Bool) → false ≡ (b && false)
-and_false true = refl
-and_false false = refl
-
-and_true : (b : Bool) → b ≡ (b && true)
-and_true true = refl
-and_true false = refl
-
 joined : (test : List ℕ → Bool) (n : ℕ) (h : Here) → JoinsAll test → test [] ≡ false
     → n ≡ run_length test h.unread.text
     → ((steps n h).begins_line ≡ (h.begins_line && n == 0)) × ((steps n h).tab ≡ (if n == 0 then h.tab else None))
 unfolding steps
-joined test zero h joins nul whole = (and_true h.begins_line, refl)
+joined test zero h joins nul whole = (sym (and-true h.begins_line), refl)
 joined test (suc n) h joins nul whole =
     let is = run_ends test n h joins nul whole in
     let some : (suc n == 0) ≡ false = grind (arith, nat_tests) in
-    rw some (is.0 ∙ and_false h.begins_line, is.1)
+    rw some (is.0 ∙ sym (and-false h.begins_line), is.1)
 
 -- behind such a run
 pub lands_joined :

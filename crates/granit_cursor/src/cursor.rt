@@ -170,7 +170,7 @@ impl<T: Input> Cursor<T> {
         self.index += 1;
         self.col += 1;
         self.begins_line = false;
-        self.tab = None;
+        clear_tab(&mut self.tab);
     }
 
     /// The same where mostly a blank or a break stands here.
@@ -656,6 +656,16 @@ fn drop_tab(tab: &mut Option<Marker>, taken: usize)
     ensures { tab.new ≡ (if taken == 0 then tab.old else None) }
 {
     if taken > 0 {
+        clear_tab(tab);
+    }
+}
+
+/// No tab is known; where none was, nothing is written.
+#[inline(always)]
+fn clear_tab(tab: &mut Option<Marker>)
+    ensures { tab.new ≡ None }
+{
+    if tab.is_some() {
         *tab = None;
     }
 }

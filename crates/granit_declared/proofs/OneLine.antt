@@ -3,7 +3,7 @@ use Rattle.std.proofs.Common.{◌≡◌, ℕ, false, List, [], ◌∷◌, ◌++�
 use Rattle.std.proofs.Common.{refl, ap, ◌∙◌}
 use Rattle.granit_base.specs.Classes.{is_blank, is_break}
 use Rattle.granit_lexemes.proofs.CharTests.{blank_apart_from_break, no_break_noted}
-use Rattle.granit_lexemes.specs.Comment.{CommentRead, StandsComment, is_comment_char}
+use Rattle.granit_lexemes.specs.Comment.{CommentRead, StandsComment, is_line_char}
 use Rattle.granit_lexemes.specs.Gap.{Each}
 use Rattle.granit_lexemes.specs.HeaderExtent.{LexemeTail, commented, uncommented}
 use Rattle.granit_lexemes.specs.Here.{Here, step}
@@ -32,7 +32,7 @@ over_line (c ∷ cs) more h e b =
     over_line cs more (step h) (stepped_text h c (cs ++ more) e) b.1
     ∙ step_line h c (cs ++ more) e (blank_apart_from_break c b.0)
 
-steps_line : (cs more : List ℕ) (h : Here) → h.unread.text ≡ cs ++ more → Each is_comment_char cs →
+steps_line : (cs more : List ℕ) (h : Here) → h.unread.text ≡ cs ++ more → Each is_line_char cs →
     (steps (length cs) h).place.line ≡ h.place.line
 unfolding steps
 steps_line [] more h e b = refl

@@ -20,10 +20,6 @@ pub no_nul_digit : is_digit 0 ≡ false
 unfolding is_digit
 no_nul_digit = refl
 
-pub some_digit : (c : ℕ) → is_digit c ≡ true → 0 < c
-unfolding is_digit
-some_digit c e = grind (arith, nat_tests)
-
 pub digit_value : (c : ℕ) → is_digit c ≡ true → (hex_value c ≡ c - 0x30) × (hex_value c < 10)
 unfolding is_digit hex_value
 digit_value c e = (grind (arith, nat_tests), grind (arith, nat_tests))

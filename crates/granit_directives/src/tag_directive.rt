@@ -13,7 +13,7 @@ use crate::words::{byte_count, count_blanks};
 use granit_base::{Marker, NoMemory, is_blank_or_breakz, is_tag_char, push_char};
 use granit_cursor::Cursor;
 use granit_error::{ErrorKind, ScanError};
-use granit_input::Input;
+use granit_input::{Class, Input};
 use granit_properties::{Uri, Word, bang, empty_text, read_uri, spend, take_word};
 use std::alloc::Global;
 
@@ -83,7 +83,7 @@ fn spelled_handle<T: Input>(
 {
     let mut text = bang(alloc)?;
     cursor.step();
-    take_word(cursor, Word::Alpha, &mut text)?;
+    take_word(cursor, Word::Of(Class::Alpha), &mut text)?;
     let word_bytes = byte_count(text.as_str());
     let closed = closes_handle(cursor, &mut text)?;
     let bytes = byte_count(text.as_str());

@@ -11,7 +11,7 @@ ghost use Rattle.granit_lexemes.specs.Here.{past};
 use granit_base::Marker;
 use granit_cursor::Cursor;
 use granit_error::ScanError;
-use granit_input::Input;
+use granit_input::{Class, Input};
 use granit_properties::{Word, empty_text, spend, take_word};
 use std::alloc::Global;
 
@@ -52,7 +52,7 @@ pub(crate) fn word_within<T: Input>(
     ensures moves { Moves T.unread T.left T.origin cursor.old cursor.new }
 {
     let mut text = empty_text(alloc);
-    take_word(cursor, Word::NonSpace, &mut text)?;
+    take_word(cursor, Word::Of(Class::NonSpace), &mut text)?;
     let mut rest = left;
     spend(Some(limit), &mut rest, byte_count(text.as_str()), start)?;
     Ok(WordText { text, left: rest })

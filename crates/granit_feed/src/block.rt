@@ -39,6 +39,7 @@ fn no_key(fault: &mut Option<ScanError>, token: &Token<'_>) -> Refused
 
 // Sequences (YAML 1.2.2, 8.2.1).
 
+#[inline(always)]
 #[tactic(auto, unfolding(granit_machine::specs::BlockSteps::in_sequence))]
 pub(crate) fn in_sequence<'input>(
     state: &mut ParserState<'input>,
@@ -316,6 +317,7 @@ fn behind_block_key<'input>(
     }
 }
 
+#[inline(always)]
 pub(crate) fn in_mapping<'input>(
     state: &mut ParserState<'input>,
     fault: &mut Option<ScanError>,

@@ -185,6 +185,8 @@ fn take_lexeme<'input>(
 ///
 /// What is wrong with it there, and `NoMemory`; of the state from then on it is said only that the handles that stay
 /// over documents are as before.
+// Inlined: each lexeme comes through it.
+#[inline(always)]
 pub fn feed<'input>(
     state: &mut ParserState<'input>,
     fault: &mut Option<ScanError>,

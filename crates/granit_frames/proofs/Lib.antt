@@ -1,4 +1,3 @@
 pub mod CloseLemmas
 pub mod EntryLemmas
 pub mod FrameLemmas
-pub mod WaitLemmas

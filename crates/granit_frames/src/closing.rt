@@ -82,7 +82,7 @@ fn is_at_value_or_behind(stage: PairStage) -> bool
     matches!(stage, PairStage::AtValue | PairStage::BehindPair)
 }
 
-fn is_behind_pair(stage: PairStage) -> bool
+pub(crate) fn is_behind_pair(stage: PairStage) -> bool
     ensures { result ≡ closing.is_behind_pair (pair_view stage) }
 {
     matches!(stage, PairStage::BehindPair)

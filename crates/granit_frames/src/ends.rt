@@ -1,5 +1,5 @@
 //! How nodes end and collections begin.
-ghost use Rattle.std.specs.Prelude.{◌≡◌, ◌<◌, ◌∷◌, false, length, None, IsOk, OnOk};
+ghost use Rattle.std.specs.Prelude.{◌≡◌, ◌<◌, ◌∷◌, true, false, length, None, IsOk, OnOk};
 ghost use Rattle.granit_error.specs.OptionsView.{options_of};
 ghost use Rattle.granit_event.specs.Events.{event_kind};
 ghost use Rattle.granit_refused.specs.Answered.{answered};
@@ -13,6 +13,7 @@ ghost use Rattle.granit_machine.specs.NodeEnds as ends;
 ghost use Rattle.granit_nesting.specs.FrameViews.{frame_view, pair_view};
 ghost use Rattle.granit_node_properties.specs.PropertyViews.{bears};
 
+use crate::closing::is_behind_pair;
 use crate::state::{DocumentStage, ParserState, Top, Waiting};
 use granit_base::{Marker, NoMemory, Span};
 use granit_error::{ErrorKind, Options, ScanError};
@@ -100,6 +101,36 @@ impl<'input> ParserState<'input> {
     /// The empty nodes of the pair that ends before a place, or goes on there with no `:`.
     #[inline(always)]
     pub fn owed(&mut self, mark: Marker) -> Result<(), NoMemory>
+        ensures leaves { OnOk result (self.new ≡ ends.owed mark self.old) }
+        ensures kept { self.new.kept ≡ self.old.kept }
+        ensures eventless { WantsToGive result self.old (ends.owed mark self.old) }
+    {
+        if self.owes_nothing() {
+            return Ok(());
+        }
+        self.give_owed(mark)
+    }
+
+    /// Whether that pair surely has both its nodes, as most have.
+    #[inline(always)]
+    fn owes_nothing(&self) -> bool
+        ensures { (mark : _) → result ≡ true → ends.owed mark self.now ≡ self.now }
+    {
+        match self.top() {
+            Top::Outside => true,
+            Top::Properties(_, _) => true,
+            Top::In(Frame::Root(_), _) => true,
+            Top::In(Frame::BlockSequence(_, _), _) => false,
+            Top::In(Frame::BlockMapping(_, stage), _) => is_behind_pair(stage),
+            Top::In(Frame::FlowSequence(_), _) => true,
+            Top::In(Frame::FlowMapping(_, stage), _) => is_behind_pair(stage),
+            Top::In(Frame::FlowPair(stage), _) => is_behind_pair(stage),
+        }
+    }
+
+    /// Its empty nodes. Apart, since few pairs have one.
+    #[inline(never)]
+    fn give_owed(&mut self, mark: Marker) -> Result<(), NoMemory>
         ensures leaves { OnOk result (self.new ≡ ends.owed mark self.old) }
         ensures kept { self.new.kept ≡ self.old.kept }
         ensures eventless { WantsToGive result self.old (ends.owed mark self.old) }

@@ -56,6 +56,30 @@ impl<'input> ParserState<'input> {
         ensures kept { self.new.kept ≡ self.old.kept }
         ensures eventless { WantsToGive result self.old (giving.flush self.old) }
     {
+        if self.holds_comments() {
+            return self.flush_comments();
+        }
+        self.waiting = None;
+        Ok(())
+    }
+
+    /// Whether comments were held; mostly none was, and what waits isn't moved.
+    fn holds_comments(&self) -> bool
+        ensures { result ≡ false → giving.flush self.now ≡ record self.now { waiting = None } }
+    {
+        match &self.waiting {
+            None => false,
+            Some(waiting) => waiting.held.is_some(),
+        }
+    }
+
+    /// Gives the comments that were held.
+    #[inline(never)]
+    fn flush_comments(&mut self) -> Result<(), NoMemory>
+        ensures leaves { OnOk result (self.new ≡ giving.flush self.old) }
+        ensures kept { self.new.kept ≡ self.old.kept }
+        ensures eventless { WantsToGive result self.old (giving.flush self.old) }
+    {
         match self.waiting.take() {
             None => Ok(()),
             Some(waiting) => self.give_held(waiting.held),

@@ -10,11 +10,11 @@ use Rattle.std.proofs.lemmas.Str.{encodes-append, encodes-chars, encodes_same, I
 use Rattle.std.proofs.lemmas.Str.{IsCharBoundary-from_drop, IsUtf8-take, chars_past_char, IsUtf8-past_char}
 use Rattle.std.proofs.Common.{◌≡◌, ℕ, ◌+◌, ◌-◌, ◌≤◌, Bool, List, ◌++◌, length, take, drop, slice_range, ◌&&◌, Option}
 use Rattle.std.proofs.Common.{Some, None, is_some, IsNone, IfSome, refl, sym, ap, subst, ◌∙◌, arith, zero, suc, [], ◌∷◌}
-use Rattle.std.proofs.Common.{◌<◌, true, add-zero}
+use Rattle.std.proofs.Common.{true, add-zero}
 use Rattle.std.specs.Char.{encode_utf8}
 use Rattle.std.specs.Str.{chars, encode_utf8_all, IsUtf8, IsCharBoundary}
 use Rattle.std.proofs.lemmas.Bool.{and_parts}
-use Rattle.std.proofs.lemmas.List.{take-append-drop, drop-drop, drop_at, length-append, length-drop}
+use Rattle.std.proofs.lemmas.List.{take-append-drop, drop-drop, length-append, length-drop}
 use Rattle.std.proofs.Math.Seq.{take-append_seam}
 use Rattle.std.proofs.lemmas.Str.{encodes-append, encodes-chars, encodes_same, IsUtf8-from_is_utf8}
 use Rattle.std.proofs.lemmas.Str.{IsCharBoundary-from_drop, IsUtf8-past_char, IsUtf8-take, chars_past_char}
@@ -158,29 +158,6 @@ lent_past old now left_old left_now u n start end answer goes before after from 
 
 -- ---- behind characters that stand there
 
-spells_more : (bytes : List ℕ) (at c : ℕ) (cs : List ℕ) → Spells bytes at (c ∷ cs)
-    → Spells bytes (at + length (encode_utf8 c)) cs
-spells_more bytes at c cs s =
-    let here = drop at bytes in
-    let size = length (encode_utf8 c) in
-    let whole : here ≡ encode_utf8 c ++ encode_utf8_all cs =
-    sym (encodes-chars here (spells_utf8 bytes at (c ∷ cs) s)) ∙ ap encode_utf8_all s.spelled in
-    let behind : drop size here ≡ encode_utf8_all cs = ap (drop size) whole
-    ∙ drop_at (encode_utf8 c) (encode_utf8_all cs) size refl in
-    let after : drop (at + size) bytes ≡ encode_utf8_all cs = sym (drop-drop size at bytes) ∙ behind in
-    let utf8 : IsUtf8 (encode_utf8_all cs) =
-    IsUtf8-past_char here (encode_utf8_all cs) c (spells_utf8 bytes at (c ∷ cs) s) whole in
-    let text : c ∷ cs ≡ c ∷ chars (encode_utf8_all cs) =
-    sym s.spelled ∙ chars_past_char here (encode_utf8_all cs) c (spells_utf8 bytes at (c ∷ cs) s) whole in
-    let long : length here ≡ size + length (encode_utf8_all cs) = ap length whole
-    ∙ length-append (encode_utf8 c) (encode_utf8_all cs) in
-    let left : length here ≡ length bytes - at = length-drop at bytes in
-    record {
-      within = omega (arith, long, left, s.within);
-      utf8 = is_utf8-from_IsUtf8 (drop (at + size) bytes) (rw after utf8);
-      spelled = ap chars after ∙ sym (ap (drop 1) text);
-    }
-
 -- so many characters on, what is left is spelled too
 pub spells_behind : (n : ℕ) (bytes : List ℕ) (at : ℕ) (text : List ℕ) → Spells bytes at text
     → Spells bytes (at + utf8_length (take n text)) (drop n text)
@@ -188,7 +165,7 @@ spells_behind zero bytes at [] s = subst (λ (k : ℕ). Spells bytes k []) (sym 
 spells_behind zero bytes at (c ∷ cs) s = subst (λ (k : ℕ). Spells bytes k (c ∷ cs)) (sym (add-zero at)) s
 spells_behind (suc n) bytes at [] s = subst (λ (k : ℕ). Spells bytes k []) (sym (add-zero at)) s
 spells_behind (suc n) bytes at (c ∷ cs) s =
-    let more = spells_behind n bytes (at + length (encode_utf8 c)) cs (spells_more bytes at c cs s) in
+    let more = spells_behind n bytes (at + length (encode_utf8 c)) cs (spells_step bytes at c cs s) in
     let apart : at + length (encode_utf8 c) + utf8_length (take n cs)
     ≡ at + (length (encode_utf8 c) + utf8_length (take n cs)) = omega arith in
     let far : at + length (encode_utf8 c) + utf8_length (take n cs) ≡ at + utf8_length (c ∷ take n cs) = apart

@@ -1,8 +1,8 @@
 -- Chunks of quoted scalars.
-use Rattle.std.proofs.Common.{◌≡◌, ◌≤◌, ℕ, Bool, true, ◌||◌, List, [], ◌∷◌, length, refl, sym, ap, subst, inl, inr}
+use Rattle.std.proofs.Common.{◌≡◌, ◌≤◌, ℕ, Bool, true, List, [], ◌∷◌, length, refl, sym, ap, subst, inl, inr}
 use Rattle.std.proofs.Common.{arith}
 use Rattle.std.specs.Str.{chars}
-use Rattle.std.proofs.lemmas.Bool.{cases_Bool}
+use Rattle.std.proofs.lemmas.Bool.{cases_Bool, or_left}
 use Rattle.std.proofs.lemmas.Str.{chars-nil}
 use Rattle.granit_base.specs.Place.{Unread, first}
 use Rattle.granit_runs.specs.Runs.{run_length, starts, is_quoted_ascii, is_quoted_char}
@@ -29,14 +29,11 @@ run_wider narrow wide more (c ∷ cs) =
       | inr failed ↦ rw failed (omega arith)
     ]
 
-either_true : (a b : Bool) → a ≡ true → (a || b) ≡ true
-either_true a b e = rw e refl
-
 -- a front of the run of ASCII is one of the wider run
 pub takes_wider : (single : Bool) (u : Unread) (taken : List ℕ) (Lands : Unread → Type 0)
     → TakesText (starts (is_quoted_ascii single)) u taken Lands
     → TakesText (starts (is_quoted_char single)) u taken Lands
 takes_wider single u taken Lands t =
     let wider = run_wider (starts (is_quoted_ascii single)) (starts (is_quoted_char single))
-    (λ text e. either_true (is_quoted_ascii single (first text)) _ e) u.text in
+    (λ text e. or_left (is_quoted_ascii single (first text)) _ e) u.text in
     record { fits = omega (arith, t.fits); text = t.text; lands = t.lands }

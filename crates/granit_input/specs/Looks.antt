@@ -1,6 +1,7 @@
 -- What the calls that look ahead answer.
-use Rattle.std.specs.Prelude.{◌≡◌, ℕ, ◌==◌, ◌&&◌, ◌||◌, Bool, true, false, List, slice_index, Option, MatchOption}
-use Rattle.granit_base.specs.Classes.{is_blank_or_breakz, is_breakz}
+use Rattle.std.specs.Prelude.{◌≡◌, ℕ, ◌==◌, ◌&&◌, Bool, true, false, List, slice_index, Option, MatchOption}
+use Rattle.granit_base.specs.Classes.{is_breakz}
+pub use Rattle.granit_base.specs.DocumentMark.{is_document_start, is_document_end, is_document_mark}
 use Rattle.granit_base.specs.Place.{Unread, first}
 use Rattle.granit_runs.specs.Unread.{past_count}
 
@@ -10,17 +11,6 @@ begins_with_2 c1 c2 text = slice_index text 0 == c1 && slice_index text 1 == c2
 
 abbrev pub begins_with_3 : ℕ → ℕ → ℕ → List ℕ → Bool
 begins_with_3 c1 c2 c3 text = (slice_index text 0 == c1 && slice_index text 1 == c2) && slice_index text 2 == c3
-
--- `---` with a blank, a break, NUL or the end behind it (9.1.2)
-abbrev pub is_document_start : List ℕ → Bool
-is_document_start text = begins_with_3 0x2D 0x2D 0x2D text && is_blank_or_breakz (slice_index text 3)
-
--- `...` with a blank, a break, NUL or the end behind it (9.1.2)
-abbrev pub is_document_end : List ℕ → Bool
-is_document_end text = begins_with_3 0x2E 0x2E 0x2E text && is_blank_or_breakz (slice_index text 3)
-
-abbrev pub is_document_indicator : List ℕ → Bool
-is_document_indicator text = is_document_start text || is_document_end text
 
 -- the next character is read, unless it is a break or NUL, or the end is here
 abbrev pub ReadsNonBreakz : Unread → Option ℕ → (Unread → Type 0) → Type 0

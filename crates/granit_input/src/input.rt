@@ -22,7 +22,7 @@ ghost use Rattle.granit_runs.specs.Chunks.{SkipsRun, FetchesRun, SkipsFront, Fet
 ghost use Rattle.granit_runs.specs.Chunks.{count_of, front_count_of};
 ghost use Rattle.granit_runs.specs.Lines.{TakesLines, lines_taken, is_visible};
 ghost use Rattle.granit_input.specs.Looks.{begins_with_2, begins_with_3, is_document_start, is_document_end};
-ghost use Rattle.granit_input.specs.Looks.{is_document_indicator, ReadsNonBreakz};
+ghost use Rattle.granit_input.specs.Looks.{is_document_mark, ReadsNonBreakz};
 ghost use Rattle.granit_runs.specs.White.{holds, SkipsBlanks, SkipsWhite};
 ghost use Rattle.granit_runs.specs.Words.{TakesPlain, plain_taken};
 
@@ -264,7 +264,7 @@ pub trait Input: Drop {
     /// Whether either of them is next.
     fn next_is_document_indicator(&self) -> bool
         requires { 4 ≤ window self.now }
-        ensures value { (u : Unread) → unread self.now u → result ≡ is_document_indicator u.text }
+        ensures value { (u : Unread) → unread self.now u → result ≡ is_document_mark u.text }
         ensures some { result ≡ true → 3 ≤ left self.now }
     {
         self.next_is_document_start() || self.next_is_document_end()

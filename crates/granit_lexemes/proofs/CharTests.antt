@@ -3,7 +3,7 @@ use Rattle.std.proofs.Common.{◌≡◌, ℕ, arith, false, true, Bool, ap, ◌|
 use Rattle.std.proofs.lemmas.Bool.{or_right}
 use Rattle.std.proofs.lemmas.Bool.Decides.{nat_tests}
 use Rattle.granit_base.specs.Classes.{is_blank, is_break, is_gap, is_printable, is_breakz, is_z, is_bom}
-use Rattle.granit_lexemes.specs.Comment.{is_comment_char}
+use Rattle.granit_lexemes.specs.Comment.{is_line_char}
 use Rattle.granit_lexemes.specs.QuotedScalar.{is_kept, is_literal}
 
 -- a blank is no break
@@ -43,12 +43,12 @@ pub break_prints : (c : ℕ) → is_break c ≡ true → is_printable c ≡ true
 unfolding is_break is_printable
 break_prints c y = grind (arith, nat_tests)
 
-pub no_break_noted : (c : ℕ) → is_comment_char c ≡ true → is_break c ≡ false
+pub no_break_noted : (c : ℕ) → is_line_char c ≡ true → is_break c ≡ false
 unfolding is_breakz
 no_break_noted c e = by (is_break c) refl
   where
     by : (b : Bool) → is_break c ≡ b → is_break c ≡ false
-    by true is = absurd (let g : is_comment_char c ≡ false = ap (λ b. not (b || is_z c) && is_printable c) is in cc)
+    by true is = absurd (let g : is_line_char c ≡ false = ap (λ b. not (b || is_z c) && is_printable c) is in cc)
     by false is = is
 
 pub bom_is : (c : ℕ) → is_bom c ≡ true → c ≡ 0xFEFF

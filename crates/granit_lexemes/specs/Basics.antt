@@ -1,8 +1,9 @@
 -- What the readers of all lexemes share.
-use Rattle.std.specs.Prelude.{ℕ, ◌-◌, Bool, true, false, ◌==◌, ◌&&◌, ◌||◌, not, if◌then◌else◌, List, take, slice_index}
+use Rattle.std.specs.Prelude.{ℕ, ◌-◌, Bool, true, false, ◌==◌, ◌&&◌, not, if◌then◌else◌, List, take, slice_index}
 use Rattle.std.specs.Prelude.{Option, Some, None, Result, Err}
 use Rattle.std.specs.List.{find}
-use Rattle.granit_base.specs.Classes.{is_blank_or_breakz, is_printable}
+use Rattle.granit_base.specs.Classes.{is_printable}
+pub use Rattle.granit_base.specs.DocumentMark.{is_document_mark}
 use Rattle.granit_base.specs.Place.{Mark}
 use Rattle.granit_base.specs.Written.{Written}
 use Rattle.granit_error.specs.FaultKind.{FaultKind, UnexpectedCharacter}
@@ -17,14 +18,6 @@ unfoldable pub past_break : Here → Here
 past_break h =
     if next_char h == 0x0D && slice_index h.unread.text 1 == 0x0A then step (step h)
     else step h
-
--- whether a text begins with `---` or `...`, with a blank, a break, NUL or the end behind it (9.1.2)
-abbrev pub is_document_mark : List ℕ → Bool
-is_document_mark text =
-    (((slice_index text 0 == 0x2D && slice_index text 1 == 0x2D) && slice_index text 2 == 0x2D)
-    && is_blank_or_breakz (slice_index text 3))
-    || (((slice_index text 0 == 0x2E && slice_index text 1 == 0x2E) && slice_index text 2 == 0x2E)
-    && is_blank_or_breakz (slice_index text 3))
 
 -- the first character that isn't printable
 abbrev pub unprintable : List ℕ → Option ℕ

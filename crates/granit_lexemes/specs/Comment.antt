@@ -1,7 +1,8 @@
 -- Comments: how far one goes, its text, and what may not stand in it (YAML 1.2.2, 6.6).
 use Rattle.std.specs.Prelude.{◌≡◌, ℕ, suc, ◌==◌, Bool, true, false, ◌&&◌, ◌||◌, not, if◌then◌else◌, List, [], ◌∷◌, ◌++◌}
 use Rattle.std.specs.Prelude.{length, ◌⊎◌, Result, Ok, Err}
-use Rattle.granit_base.specs.Classes.{is_break, is_breakz, is_printable}
+use Rattle.granit_base.specs.Classes.{is_break, is_printable}
+pub use Rattle.granit_base.specs.Classes.{is_line_char}
 use Rattle.granit_base.specs.Place.{Mark, first}
 use Rattle.granit_base.specs.Written.{Written}
 use Rattle.granit_error.specs.FaultKind.{FaultKind, UnexpectedCharacter}
@@ -12,24 +13,20 @@ use Rattle.granit_lexemes.specs.Source.{Source}
 use Rattle.granit_lexemes.specs.Moves.{steps}
 use Rattle.granit_lexemes.specs.Outcome.{Fault, ◌>>=◌}
 
--- a character of a comment's text: printable, and neither a break nor NUL
-abbrev pub is_comment_char : ℕ → Bool
-is_comment_char c = not (is_breakz c) && is_printable c
-
 -- ---- what a comment is
 
 -- A text begins with `#` and these characters, and then the line or the text ends.
 pub record IsComment (x : List ℕ) (cs : List ℕ) : Type 0 where
   pub behind : List ℕ
   pub spelled : x ≡ 0x23 ∷ (cs ++ behind)
-  pub text : Each is_comment_char cs
+  pub text : Each is_line_char cs
   pub ends : (behind ≡ []) ⊎ (is_break (first behind) ≡ true)
 
 -- A text begins with `#` and these characters, and on the same line an unprintable character follows.
 pub record IsSpoiled (x : List ℕ) (cs : List ℕ) (c : ℕ) : Type 0 where
   pub behind : List ℕ
   pub spelled : x ≡ 0x23 ∷ (cs ++ c ∷ behind)
-  pub text : Each is_comment_char cs
+  pub text : Each is_line_char cs
   pub unprintable : is_printable c ≡ false
 
 -- ---- how one is read
@@ -43,7 +40,7 @@ pub record CommentRead : Type 0 where
 
 -- behind the characters of a comment that begins here; its blanks are no indentation
 abbrev pub past_comment : Here → Here
-past_comment h = mid_line (steps (chunk_len is_comment_char (step h)) (step h))
+past_comment h = mid_line (steps (chunk_len is_line_char (step h)) (step h))
 
 -- behind a comment, where no unprintable character may stand; a NUL in the text is one
 unfoldable pub behind_comment : Here → Result (Unit {0} × Here) Fault
@@ -58,7 +55,7 @@ skipped_comment h = behind_comment (past_comment h)
 -- the comment that begins here and ends there
 abbrev pub comment_read : Here → Here → CommentRead
 comment_read h after = record {
-  text = as_spelled h (chunk is_comment_char (step h));
+  text = as_spelled h (chunk is_line_char (step h));
   source = record { start = mark_of h; end = mark_of after };
   is_right = not h.begins_line;
 }

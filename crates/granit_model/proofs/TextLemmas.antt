@@ -1,5 +1,5 @@
 -- What one write after another appends.
-use Rattle.std.proofs.Common.{◌≡◌, ℕ, ◌+◌, ◌<◌, Bool, map, List, [], ◌∷◌, ◌++◌, length, take, get_or, String}
+use Rattle.std.proofs.Common.{◌≡◌, ℕ, ◌+◌, ◌<◌, Bool, List, [], ◌∷◌, ◌++◌, length, take, get_or, String}
 use Rattle.std.proofs.Common.{string_bytes, refl, sym, ap, ◌∙◌}
 use Rattle.std.specs.Str.{chars, IsUtf8}
 use Rattle.std.specs.declared.alloc.Global.{Global}
@@ -32,10 +32,6 @@ pub all_of_it : (a b : String Global) (write : List ℕ → List ℕ) → string
     → string_chars b ≡ write []
 all_of_it a b write e h =
     sym (append-nil (string_chars b)) ∙ h [] ∙ ap (λ (cs : List ℕ). cs ++ write []) (ap chars e ∙ chars-nil)
-
-pub as_they_are : (cs : List ℕ) → cs ≡ map (λ c. c) cs
-as_they_are [] = refl
-as_they_are (c ∷ cs) = ap (λ (ds : List ℕ). c ∷ ds) (as_they_are cs)
 
 -- one more pair
 pub pairs_grow :

@@ -1,5 +1,6 @@
 -- Words of the worked examples.
-use Rattle.std.specs.Prelude.{ℕ, Bool, true, List, take, Option, Result, Ok, Err}
+pub use Rattle.granit_machine.specs.ExampleOptions.{no_directives as directives_refused}
+use Rattle.std.specs.Prelude.{ℕ, Bool, List, take, Option, Result, Ok, Err}
 use Rattle.std.specs.Option.{option_map}
 use Rattle.granit_error.specs.FaultKind.{FaultKind}
 use Rattle.granit_error.specs.OptionsData.{OptionsData, default_options}
@@ -29,15 +30,12 @@ name_seen text index = outcome_told (name_at (at_index text index) >>= λ x. Ok 
 abbrev pub directive_seen : OptionsData → List ℕ → Result (DirectiveKind × ℕ) (FaultKind × ℕ)
 directive_seen o text = outcome_told (directive_at o (start_of text))
 
--- options with other limits, and without directives
+-- options with other limits
 abbrev pub few_bytes : ℕ → OptionsData
 few_bytes n = record default_options { max_directive_bytes = n }
 
 abbrev pub few_words : ℕ → OptionsData
 few_words n = record default_options { max_reserved_directive_params = n }
-
-abbrev pub directives_refused : OptionsData
-directives_refused = record default_options { disallow_directives = true }
 
 -- a directive, the index behind it, the text of the comment behind it, and the index where reading then stands
 abbrev pub line_read : Result (DirectiveRead × Here) Fault

@@ -54,20 +54,6 @@ held_events (Some w) p = more p.given w.held
 pub flush_events : (p : ParserState) → given_count p ≤ given_count (flush p)
 flush_events p = held_events p.waiting p
 
-held_frames : (w : Option Waiting) (p : ParserState) → (flush_held w p).frames ≡ p.frames
-held_frames None p = refl
-held_frames (Some w) p = refl
-
-pub flush_frames : (p : ParserState) → (flush p).frames ≡ p.frames
-flush_frames p = held_frames p.waiting p
-
-held_none : (w : Option Waiting) (p : ParserState) → p.waiting ≡ w → (flush_held w p).waiting ≡ None
-held_none None p is = is
-held_none (Some w) p is = refl
-
-pub flush_none : (p : ParserState) → (flush p).waiting ≡ None
-flush_none p = held_none p.waiting p refl
-
 -- ---- events
 
 pub give_events : (e : PlainEvent) (p : ParserState) → given_count p < given_count (give e p)
@@ -87,10 +73,6 @@ pub tail_events : (tail : Option CommentRead) (p : ParserState) → given_count 
 tail_events None p = omega arith
 tail_events (Some c) p =
     omega (arith, one_more (flush p).given (event_at (Comment c.text Right) c.source), flush_events p)
-
-pub tail_frames : (tail : Option CommentRead) (p : ParserState) → (give_tail tail p).frames ≡ p.frames
-tail_frames None p = refl
-tail_frames (Some c) p = flush_frames p
 
 -- ---- the empty nodes of a pair
 

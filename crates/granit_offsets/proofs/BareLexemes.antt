@@ -20,7 +20,7 @@ use Rattle.granit_lexemes.specs.BlockScalar.{over_spaces, indented, empty_turn, 
 use Rattle.granit_lexemes.specs.BlockScalar.{line_up_to, block_turn, block_len, BlockRead, last_break}
 use Rattle.granit_lexemes.specs.BlockScalar.{kept, block_read, behind_block, no_content, is_between, content_lines}
 use Rattle.granit_lexemes.specs.BlockScalar.{block_lines, block_body, BlockGiven, block_scalar}
-use Rattle.granit_lexemes.specs.Comment.{CommentRead, is_comment_char, past_comment, behind_comment, skipped_comment}
+use Rattle.granit_lexemes.specs.Comment.{CommentRead, is_line_char, past_comment, behind_comment, skipped_comment}
 use Rattle.granit_lexemes.specs.Comment.{comment_read, comment}
 use Rattle.granit_lexemes.specs.Decoding.{letter_value, digit_count, is_high, is_low, joined}
 use Rattle.granit_lexemes.specs.Here.{Here, text_len, next_char, mark_of, first_tab, begins_behind, tab_behind, step}
@@ -213,8 +213,8 @@ module _ (keep : Kept) where
   on_tail x = (bare_tail keep x.0, bare_here keep x.1)
 
   past_comment_bare : (h : Here) → past_comment (bare_here keep h) ≡ bare_here keep (past_comment h)
-  past_comment_bare h = ap (λ (g : Here). mid_line (steps (chunk_len is_comment_char g) g)) (step_bare h)
-      ∙ ap mid_line (steps_bare (chunk_len is_comment_char (step h)) (step h))
+  past_comment_bare h = ap (λ (g : Here). mid_line (steps (chunk_len is_line_char g) g)) (step_bare h)
+      ∙ ap mid_line (steps_bare (chunk_len is_line_char (step h)) (step h))
 
   behind_comment_same : (h : Here) → Same on_here (behind_comment (bare_here keep h)) (behind_comment h)
   unfolding behind_comment
@@ -230,7 +230,7 @@ module _ (keep : Kept) where
   comment_read_bare h after = ap (λ (g : Here). record (comment_read (bare_here keep h) (bare_here keep after)) {
     text =
         Rattle.granit_lexemes.specs.Basics.as_spelled (bare_here keep h)
-        (Rattle.granit_lexemes.specs.Here.chunk is_comment_char g);
+        (Rattle.granit_lexemes.specs.Here.chunk is_line_char g);
   }) (step_bare h)
 
   pub comment_same : (h : Here) → Same on_comment (comment (bare_here keep h)) (comment h)

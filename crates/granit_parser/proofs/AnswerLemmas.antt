@@ -19,6 +19,7 @@ use Rattle.granit_parser.specs.Recovering.{SeenBy, SeenTells, asking_document, c
 use Rattle.granit_parser.specs.Recovering.{seen_comment, seen_in, seen_other}
 use Rattle.granit_seen.specs.Seeing.{seen_kind}
 use Rattle.granit_calls.specs.Asking.{LookTells}
+use Rattle.granit_recovery.proofs.RecoveryLaws.{noted_steps}
 use Rattle.granit_restart.proofs.AheadLaws.{look_is_ahead}
 use Rattle.granit_calls.proofs.AskLaws.{look_none}
 use Rattle.granit_restart.specs.Ahead.{AheadOf, NoneComes, is_note}
@@ -29,7 +30,7 @@ use Rattle.granit_restart.specs.Recovery.{comment_count, recover, recovered, rec
 use Rattle.granit_restart.specs.Skipping.{Stops, with_pending}
 use Rattle.granit_restart.specs.Turned.{Turned}
 use Rattle.granit_sourced.proofs.CallLemmas.{further}
-use Rattle.granit_sourced.proofs.GoesLemmas.{note_keeps, noted_steps}
+use Rattle.granit_sourced.proofs.GoesLemmas.{note_keeps}
 use Rattle.granit_sourced.specs.Going.{GoesWithCalls}
 use Rattle.granit_stepper.specs.Numbers.{RefusesNumber}
 use Rattle.granit_stepper.specs.Recovering.{Looks}

@@ -10,6 +10,7 @@ use Rattle.granit_parser.proofs.InLemmas.{closed_open, goes_in, open_seen}
 use Rattle.granit_parser.specs.Parsing.{Next, Parsing, StandsBefore}
 use Rattle.granit_parser.specs.Recovering.{AnswersBy, ChangesIn, GaveUp, IsClosed, IsOpen, ParserIn, SeenBy, SeenNone}
 use Rattle.granit_parser.specs.Recovering.{SeenOrFails}
+use Rattle.granit_recovery.proofs.RecoveryLaws.{noted_steps}
 use Rattle.granit_recovery.specs.Streams.{EarlyOf, not_early, turn_early}
 use Rattle.granit_restart.proofs.AheadLaws.{one, OneTurn, waits_next}
 use Rattle.granit_restart.specs.Ahead.{AheadOf, not_ahead, turn_made}
@@ -18,7 +19,6 @@ use Rattle.granit_restart.specs.Looking.{behind_waiting, turn_ahead}
 use Rattle.granit_restart.specs.Skipping.{with_pending}
 use Rattle.granit_restart.specs.Turned.{Turned, with_count}
 use Rattle.granit_sourced.proofs.CallLemmas.{Comes, comes, comes_on, waits}
-use Rattle.granit_sourced.proofs.GoesLemmas.{noted_steps}
 use Rattle.granit_sourced.specs.Going.{Failed, GoesWithCalls, SeenNext}
 use Rattle.granit_stepper.specs.Refusals.{FailsIn, StandsAhead, StandsRefused}
 use Rattle.granit_stepper.specs.Stepping.{StandsIn, Stepping}

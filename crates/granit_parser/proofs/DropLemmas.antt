@@ -22,6 +22,7 @@ use Rattle.granit_parser.specs.Recovering.{comes_behind, comes_ended, seen_comme
 use Rattle.granit_seen.specs.Seeing.{seen_kind}
 use Rattle.granit_seen.specs.declared.seen.Seen.TheVariants as seens
 use Rattle.granit_calls.specs.Asking.{LookTells}
+use Rattle.granit_recovery.proofs.RecoveryLaws.{noted_steps}
 use Rattle.granit_recovery.specs.Streams.{ReachedByCalls, reached_call, reached_recovery}
 use Rattle.granit_restart.proofs.AheadLaws.{skip_alike}
 use Rattle.granit_restart.specs.Ahead.{AheadOf, NoneComes, is_note, not_ahead}
@@ -33,12 +34,13 @@ use Rattle.granit_restart.specs.Skipping.{Ended, Failed as failed_there, SkipEnd
 use Rattle.granit_restart.specs.Skipping.{skipped_document, skipped_fault, skipped_to}
 use Rattle.granit_restart.specs.Turned.{Turned}
 use Rattle.granit_sourced.proofs.CallLemmas.{ahead_turned, comes, ends, skip_over, skip_to_end}
-use Rattle.granit_sourced.proofs.GoesLemmas.{note_keeps, noted_steps, stands_going}
+use Rattle.granit_sourced.proofs.GoesLemmas.{note_keeps, stands_going}
 use Rattle.granit_sourced.specs.Going.{Failed, GoesWithCalls, SeenNext}
 use Rattle.granit_stepper.specs.Numbers.{RefusesNumber}
 use Rattle.granit_stepper.specs.Recovering.{DropsOn, SkipsDocument, SkipsFault}
 use Rattle.granit_stepper.specs.Refusals.{StandsAhead}
 use Rattle.granit_stepper.specs.Stepping.{Stepping}
+use Rattle.granit_steps.proofs.Futures.{and_true_false}
 use Rattle.granit_steps.specs.Steps.{StepState, next_event}
 
 -- recovery asks, by where refused reads stopped
@@ -275,10 +277,6 @@ dropped_by true kind e = inr (begins_is kind (started (seeing.seen_starts_docume
     started true e = refl
     started false e = absurd (cc)
 
-within_by : (b : Bool) → (b && true) ≡ false → b ≡ false
-within_by true e = e
-within_by false e = refl
-
 module _ {I : Type 0} (unread : I → Unread → Type 0) (p : Parsing I) (c : Calls) (at : ParserIn unread p c)
     (over : c.over ≡ false) (refusal : c.refusal ≡ None) (fault : c.fault ≡ None) (o : OptionsData)
     (same : p.stepper.scanner.options ≡ o) (reached : ReachedByCalls o c) (tells : TellsHere o) where
@@ -449,7 +447,7 @@ module _ {I : Type 0} (unread : I → Unread → Type 0) (p : Parsing I) (c : Ca
           → (b && not (seeing.seen_starts_document (seen_kind kind))) ≡ false
           → b ≡ false
       other_end b kind end e =
-          within_by b (ap (λ k. b && not (seeing.seen_starts_document (seen_kind k))) (sym end) ∙ e)
+          and_true_false b (ap (λ k. b && not (seeing.seen_starts_document (seen_kind k))) (sym end) ∙ e)
 
       by : (r : Next) → SeenBy unread r p.stepper c
           → (p.between && not (seeing.seen_starts_document (seen_in r))) ≡ false
@@ -520,7 +518,7 @@ module _ {I : Type 0} (unread : I → Unread → Type 0) (p : Parsing I) (c : Ca
             ⊎ MeetsNumber new.renumbered new.scanner.options c.steps
         by None g not_here other going =
             let ahead = subst (λ o. AheadOf o c.steps g.steps) same g.ahead in
-            none_goes g (within_by p.between not_here)
+            none_goes g (and_true_false p.between not_here)
             (skips g.steps g.stands (ahead_turned o c.steps g.steps ahead (by_turns c reached)))
         by (Some (Ok x)) n not_here other going =
             let e = plain_event x in

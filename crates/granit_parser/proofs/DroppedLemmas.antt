@@ -1,7 +1,7 @@
 -- What a parser drops, by the branches of the code.
-use Rattle.std.proofs.Common.{◌≡◌, ◌⊎◌, inl, inr, Bool, true, false, not, ◌&&◌, is_some, None, Result, Ok}
+use Rattle.std.proofs.Common.{◌≡◌, ◌⊎◌, inl, inr, true, false, not, ◌&&◌, is_some, None, Result, Ok}
 use Rattle.std.proofs.Common.{Err, refl, sym, ap, subst, ◌∙◌}
-use Rattle.std.proofs.lemmas.Bool.{and_parts}
+use Rattle.std.proofs.lemmas.Bool.{and_parts, not-true}
 use Rattle.std.specs.Prelude.{IfOk, OnOk}
 use Rattle.granit_base.specs.Place.{Unread}
 use Rattle.granit_error.specs.OptionsData.{OptionsData}
@@ -19,10 +19,6 @@ use Rattle.granit_stepper.specs.Recovering.{SkipsDocument, SkipsFault}
 use Rattle.granit_stepper.specs.Refusals.{StandsAhead, StandsRefused}
 use Rattle.granit_stepper.specs.Stepping.{Stepping}
 use Rattle.granit_steps.specs.Steps.{StepState}
-
-not_true : (b : Bool) → not b ≡ true → b ≡ false
-not_true true e = absurd (cc)
-not_true false e = refl
 
 module _ {I : Type 0} (unread : I → Unread → Type 0) (p : Parsing I) (c : Calls)
     (reached : ReachedByCalls p.stepper.scanner.options c) (at : ParserIn unread p c) (over : c.over ≡ false)
@@ -100,4 +96,4 @@ module _ {I : Type 0} (unread : I → Unread → Type 0) (p : Parsing I) (c : Ca
       let both = and_parts p.between (not (seeing.seen_starts_document (seen_in p.peeked))) here in
       inl (all_stays unread p c at over refusal g.fault p.stepper.scanner.options refl reached tells
       p.stepper.scanner.cursor g.seen both.0 by_turns room
-      (not_true (seeing.seen_starts_document (seen_in p.peeked)) both.1) end)
+      (not-true (seeing.seen_starts_document (seen_in p.peeked)) both.1) end)

@@ -11,11 +11,12 @@ use Rattle.granit_event.specs.declared.event.Event.{Event}
 use Rattle.granit_lexemes.specs.Outcome.{Fault}
 use Rattle.granit_lexemes.specs.PlainEvent.{PlainEvent, EventKind, DocumentStart, DocumentEnd, StreamEnd}
 use Rattle.granit_parser.proofs.ChangeLemmas.{ahead_early, seen_early}
-use Rattle.granit_parser.proofs.InLemmas.{failed_at, noted_between, noted_fault, noted_over, noted_refusal, open_seen}
+use Rattle.granit_parser.proofs.InLemmas.{failed_at, noted_between, noted_over, noted_refusal, open_seen}
 use Rattle.granit_parser.specs.Holding.{FailsThere, HoldsChanged, LeadsToFault, ParserHolds, WaitsBehind, keeping_tags}
 use Rattle.granit_parser.specs.Parsing.{Next, Parsing}
 use Rattle.granit_parser.specs.Recovering.{CallGivesHeld, IsOpen, LookShowsHeld, ParserIn, SeenBy, SeenNone, failed_in}
 use Rattle.granit_parser.specs.Recovering.{notes_between, notes_over, unchanged}
+use Rattle.granit_recovery.proofs.RecoveryLaws.{noted_steps, noted_fault}
 use Rattle.granit_recovery.specs.Streams.{EarlyOf, ReachedByCalls, reached_call, reached_counting, reached_early}
 use Rattle.granit_recovery.specs.Streams.{reached_keeping}
 use Rattle.granit_restart.proofs.AheadLaws.{waits_next}
@@ -24,7 +25,7 @@ use Rattle.granit_restart.specs.Calls.{Calls, GivenByCall, given_by, next_call, 
 use Rattle.granit_restart.specs.Skipping.{with_pending}
 use Rattle.granit_restart.specs.Turned.{Turned, with_count}
 use Rattle.granit_sourced.proofs.CallLemmas.{call_going}
-use Rattle.granit_sourced.proofs.GoesLemmas.{noted_steps, turn_fails}
+use Rattle.granit_sourced.proofs.GoesLemmas.{turn_fails}
 use Rattle.granit_sourced.proofs.HeldLemmas.{held_kept}
 use Rattle.granit_sourced.specs.Going.{ReadsHeld}
 use Rattle.granit_stepper.specs.Holding.{HoldsFault}

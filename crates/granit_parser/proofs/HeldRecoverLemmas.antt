@@ -1,6 +1,7 @@
 -- Recovery where a refusal waits, and the option or the number was set since it was met.
 use Rattle.std.proofs.Common.{◌≡◌, ◌⊎◌, inl, inr, ℕ, Bool, true, false, not, ◌&&◌, is_some, List, [], ◌∷◌, Option, Some}
 use Rattle.std.proofs.Common.{None, Result, Ok, Err, refl, sym, ap, subst, ◌∙◌}
+use Rattle.std.proofs.Math.Bool.{and-false, and-true}
 use Rattle.std.specs.Prelude.{OnOk, if◌then◌else◌}
 use Rattle.granit_base.specs.Place.{Unread}
 use Rattle.granit_cursor.specs.Reading.{Reading}
@@ -18,6 +19,7 @@ use Rattle.granit_parser.specs.Recovering.{AsksBy, IsOpen, SkipsToAsk, SkipsWait
 use Rattle.granit_seen.specs.Seeing.{seen_ends_document, seen_kind, seen_starts_document}
 use Rattle.granit_seen.specs.declared.seen.Seen.TheVariants as seens
 use Rattle.granit_calls.specs.Asking.{LookTells}
+use Rattle.granit_recovery.proofs.RecoveryLaws.{noted_steps}
 use Rattle.granit_recovery.specs.Streams.{ReachedByCalls, reached_call, reached_counting, reached_keeping}
 use Rattle.granit_recovery.specs.Streams.{reached_recovery}
 use Rattle.granit_restart.proofs.AheadLaws.{waits_next}
@@ -33,7 +35,6 @@ use Rattle.granit_restart.specs.Skipping.{ahead, ahead_by, ends_before, skip_ahe
 use Rattle.granit_restart.specs.Skipping.{skip_turn, skipped_to, with_pending}
 use Rattle.granit_restart.specs.Turned.{Turned, turned_counting, turned_keeping, with_count}
 use Rattle.granit_sourced.proofs.CallLemmas.{ends}
-use Rattle.granit_sourced.proofs.GoesLemmas.{noted_steps}
 use Rattle.granit_stepper.specs.Holding.{HoldsFault, SkipsHeld, held_follows, held_skip, told_or_refused}
 use Rattle.granit_stepper.specs.Recovering.{SkipsFault}
 use Rattle.granit_stepper.specs.Refusals.{FailsIn}
@@ -160,21 +161,13 @@ held_failed f e m n is = subst (WhereFailed f m (ahead m.pending)) is (where_fai
 
 -- ---- recovery, where the turn fails
 
-and_true : (b : Bool) → b ≡ (b && true)
-and_true true = refl
-and_true false = refl
-
-and_false : (b : Bool) → false ≡ (b && false)
-and_false true = refl
-and_false false = refl
-
 starts_stays : (kind : EventKind) (c : Calls)
     → (starts_by kind c).between ≡ (c.between && not (seen_starts_document (seen_kind kind)))
-starts_stays (DocumentStart explicit version) c = and_false c.between
-starts_stays DocumentEnd c = and_true c.between
-starts_stays StreamEnd c = and_true c.between
-starts_stays (Comment text placement) c = and_true c.between
-starts_stays kind c = and_true c.between
+starts_stays (DocumentStart explicit version) c = sym (and-false c.between)
+starts_stays DocumentEnd c = sym (and-true c.between)
+starts_stays StreamEnd c = sym (and-true c.between)
+starts_stays (Comment text placement) c = sym (and-true c.between)
+starts_stays kind c = sym (and-true c.between)
 
 if_none : (b : Bool) → ◌≡◌ {A = ℕ} (if b then 0 else 0) 0
 if_none true = refl
@@ -229,7 +222,7 @@ module _ (o : OptionsData) (c : Calls) (f : Fault) (is : IsOpen c)
       → held_behind (stays_by c.between w) f c.steps ≡ Ended n → ReachedByCalls o c → TellsHere o → TellsLooked o
       → AsksHeld stops w n
   asks_held stops None n first at reached tells looks =
-      let stays : c.between ≡ stays_by c.between None = and_true c.between in
+      let stays : c.between ≡ stays_by c.between None = sym (and-true c.between) in
       let same = skipped_calls stops c (stays_by c.between None) n refl is.fault stays at in record {
         recovers = unlooked o stops c is.refusal is.over ∙ ap (recovered o 0) same
             ∙ ap (λ extra. recovered o extra (resumed n)) (sym (if_none (stays_by c.between None)));

@@ -21,6 +21,7 @@ use Rattle.granit_parser.specs.Parsing.{StandsBefore, notes_answered}
 use Rattle.granit_parser.specs.Recovering.{AnswersBy, GaveUp, GivesCall, IsClosed, IsOpen, ParserIn, SeenBy, SeenNone}
 use Rattle.granit_parser.specs.Recovering.{SeenOrFails, ShowsCall, LookShowsHeld, between_behind, failed_in}
 use Rattle.granit_parser.specs.Recovering.{notes_between, notes_over, PeeksIn, over_behind}
+use Rattle.granit_recovery.proofs.RecoveryLaws.{noted_fault}
 use Rattle.granit_recovery.specs.Streams.{ReachedByCalls, calls_from}
 use Rattle.granit_restart.specs.Ahead.{not_ahead}
 use Rattle.granit_restart.specs.Calls.{Calls, given_by, next_call, noted}
@@ -46,12 +47,6 @@ noted_over (DocumentStart explicit version) c v e = e
 noted_over DocumentEnd c v e = e
 noted_over StreamEnd c v e = refl
 noted_over kind c v e = e
-
-pub noted_fault : (kind : EventKind) (c : Calls) → (noted kind c).fault ≡ c.fault
-noted_fault (DocumentStart explicit version) c = refl
-noted_fault DocumentEnd c = refl
-noted_fault StreamEnd c = refl
-noted_fault kind c = refl
 
 pub noted_refusal : (kind : EventKind) (c : Calls) → (noted kind c).refusal ≡ c.refusal
 noted_refusal (DocumentStart explicit version) c = refl

@@ -14,7 +14,7 @@ use Rattle.granit_lexemes.specs.Outcome.{Fault}
 use Rattle.granit_lexemes.specs.PlainEvent.{EventKind, DocumentEnd, DocumentStart, PlainEvent, StreamEnd}
 use Rattle.granit_parser.proofs.DropLemmas.{seen_going}
 use Rattle.granit_parser.proofs.FirstLemmas.{is_scan, scan_or}
-use Rattle.granit_parser.proofs.InLemmas.{noted_fault, noted_refusal, open_seen}
+use Rattle.granit_parser.proofs.InLemmas.{noted_refusal, open_seen}
 use Rattle.granit_parser.proofs.SendLemmas.{both}
 use Rattle.granit_parser.specs.Parsing.{IsOver, Next, Parsing}
 use Rattle.granit_parser.specs.Receiving.{CallsFailed, CallsLeave, CallsLed, EndsSending, FirstCall, NoneLast, scanned}
@@ -24,6 +24,7 @@ use Rattle.granit_receivers.specs.Sending.{is_last}
 use Rattle.granit_receivers.specs.Taking.{Told, Took}
 use Rattle.granit_receivers.specs.declared.error.TryLoadError.{TryLoadError}
 use Rattle.granit_receivers.specs.declared.error.TryLoadError.TheVariants.{Scan, Receiver}
+use Rattle.granit_recovery.proofs.RecoveryLaws.{noted_fault}
 use Rattle.granit_recovery.specs.Streams.{CallsGive, ReachedByCalls, gives_next, gives_none, reached_call}
 use Rattle.granit_restart.specs.Calls.{Calls, GivenByCall, given_by, next_call, noted}
 use Rattle.granit_sourced.proofs.CallLemmas.{call_going}

@@ -1,7 +1,7 @@
 -- What the laws of the plain machine say of the calls that give a text's events one by one.
 pub use Rattle.granit_declared.proofs.ReadingSaid.{answer_declared, declared_answer}
 pub use Rattle.granit_declared.proofs.CauseSaid.{cause_declared, declared_cause}
-use Rattle.std.proofs.Common.{◌≡◌, ◌≢◌, ℕ, List, [], ◌∷◌, ◌++◌, Option, Some, None, Result, Ok, Err, ◌⊎◌, inl, inr}
+use Rattle.std.proofs.Common.{◌≡◌, ◌≢◌, ℕ, List, [], ◌∷◌, ◌++◌, Option, Some, None, Ok, Err, ◌⊎◌, inl, inr}
 use Rattle.std.proofs.Common.{Bool, refl, sym, ap, ap₂, ◌∙◌, subst, append_assoc}
 use Rattle.granit_chains.proofs.ChainLaws.{any_fault_caused}
 use Rattle.granit_chains.proofs.ChainLaws.{answer_reads}
@@ -15,6 +15,7 @@ use Rattle.granit_lexemes.specs.PlainEvent.{PlainEvent}
 use Rattle.granit_machine.specs.Machine.{run}
 use Rattle.granit_parser.specs.Parsing.{Next, EndsText, LeadsTo, none_given, first_given}
 pub use Rattle.granit_read_answers.proofs.ParserSources.{run_none}
+use Rattle.granit_recovery.proofs.SkipLaws.{NextAnswer}
 use Rattle.granit_sourced.specs.Giving.{GivesNext}
 use Rattle.granit_steps.specs.Levels.{BeginsStream, stream_levels}
 use Rattle.granit_steps.specs.Steps.{StepState, next_event, steps_start}
@@ -40,10 +41,8 @@ pub leads_more : (o : OptionsData) {m last after : StepState} {es : List PlainEv
 leads_more o none_given is = first_given is none_given
 leads_more o (first_given was leads) is = first_given was (leads_more o leads is)
 
-abbrev Stepped : Type 0
-Stepped = Result (Option PlainEvent × StepState) Fault
-
-one_step : {a b : Option PlainEvent} {s t : StepState} → ◌≡◌ {A = Stepped} (Ok (a, s)) (Ok (b, t)) → (a ≡ b) × (s ≡ t)
+one_step : {a b : Option PlainEvent} {s t : StepState} → ◌≡◌ {A = NextAnswer} (Ok (a, s)) (Ok (b, t))
+    → (a ≡ b) × (s ≡ t)
 one_step {a = a} {b = b} {s = s} {t = t} e =
     let p : ◌≡◌ {A = Option PlainEvent × StepState} (a, s) (b, t) = cc (e) in
     (ap (λ (x : Option PlainEvent × StepState). x.0) p, ap (λ (x : Option PlainEvent × StepState). x.1) p)
@@ -55,7 +54,7 @@ leads_front o m last [] all f none_given g = (all, refl)
 leads_front o m last (e ∷ es) all f (first_given is leads) (gives_end over) =
     absurd (let z = (one_step (sym is ∙ over)).0 in cc)
 leads_front o m last (e ∷ es) all f (first_given is leads) (gives_fault over) =
-    absurd (let z : ◌≡◌ {A = Stepped} _ _ = sym is ∙ over in cc)
+    absurd (let z : ◌≡◌ {A = NextAnswer} _ _ = sym is ∙ over in cc)
 leads_front o m last (e ∷ es) all f (first_given {next = next} is leads)
     (gives_event {after = after} {e = d} {es = ds} was more) =
     let z = one_step (sym was ∙ is) in

@@ -4,7 +4,7 @@ use Rattle.std.proofs.Common.{List, []}
 use Rattle.std.proofs.Common.{◌∷◌, ◌++◌, length, drop, slice_index, Option, Result, Ok, Err, ◌⊎◌, inl, inr, refl, sym}
 use Rattle.std.proofs.Common.{ap, ◌∙◌, subst, arith}
 use Rattle.std.specs.Prelude.{if◌then◌else◌}
-use Rattle.std.proofs.lemmas.Bool.{and_parts, eqb-true}
+use Rattle.std.proofs.lemmas.Bool.{and_parts, eqb-true, eq-eqb}
 use Rattle.std.proofs.lemmas.Bool.Decides.{nat_tests}
 use Rattle.std.proofs.lemmas.List.{append-nil}
 use Rattle.granit_base.specs.Classes.{is_break}
@@ -18,10 +18,10 @@ use Rattle.granit_lexemes.specs.Pieces.{with_front, then_more, turns, pieces}
 use Rattle.granit_lexemes.specs.PlainExtent.{is_flow_dash}
 use Rattle.granit_lexemes.specs.PlainScalar.{PlainState, PlainRead, between, on_content, on_blank, on_break, plain_turn}
 use Rattle.granit_lexemes.specs.PlainScalar.{plain_len, plain_start, is_one_line, behind_plain, plain_scalar}
-use Rattle.granit_lexemes.proofs.HereLemmas.{step_lends, step_text}
+use Rattle.granit_lexemes.proofs.HereLemmas.{step_lends, step_text, if_lends}
 use Rattle.granit_lexemes.proofs.PlainTurned.{Turned, past_a_blank, past_a_break, at_a_comment, at_a_tab, at_a_line}
 use Rattle.granit_lexemes.proofs.PlainTurned.{past_content, at_no_content, turned}
-use Rattle.granit_scalars.proofs.Stepping.{seen, second_of, is_break_nul}
+use Rattle.granit_scalars.proofs.Stepping.{seen, second_of, is_break_nul, line_ends_as}
 use Rattle.granit_plain.specs.LineCode.{LinePassed, line_state, broken_state, text_of_lines, further_scalar}
 use Rattle.granit_plain.specs.LineCode.{line_scalar}
 use Rattle.granit_plain.specs.PlainCode.{plain_rest, plain_whole, nothing_taken, cuts_at, ended_plain, plain_ended_by}
@@ -58,16 +58,10 @@ line_on h some ends =
 break_some : (h : Here) → is_break (next_char h) ≡ true → 0 < length h.unread.text
 break_some h y = let s = seen is_break h is_break_nul y in rw s.is (omega arith)
 
-either_ends : (p q r : Bool) → (p || q) ≡ true → (q && r) ≡ false → (p || (q && not r)) ≡ true
-either_ends true q r e f = refl
-either_ends false true true e f = absurd cc
-either_ends false true false e f = refl
-either_ends false false r e f = absurd cc
-
 break_ends : (c second : ℕ) → is_break c ≡ true → (c == 0x0D && second == 0x0A) ≡ false
     → (c == 0x0A || (c == 0x0D && not (second == 0x0A))) ≡ true
 unfolding is_break
-break_ends c second y n = either_ends (c == 0x0A) (c == 0x0D) (second == 0x0A) y n
+break_ends c second y n = line_ends_as (c == 0x0A) (c == 0x0D) (second == 0x0A) y n
 
 lf_breaks : (c : ℕ) → (c == 0x0A) ≡ true → is_break c ≡ true
 unfolding is_break
@@ -149,14 +143,9 @@ unfolding on_break
 break_at s true e = rw e (refl, refl)
 break_at s false e = rw e (refl, refl)
 
-cond_lends : (b : Bool) (h g : Here) (l : Bool) → h.unread.lends ≡ l → g.unread.lends ≡ l
-    → (cond b h g).unread.lends ≡ l
-cond_lends true h g l p q = p
-cond_lends false h g l p q = q
-
 break_lends : (h : Here) → (past_break h).unread.lends ≡ h.unread.lends
 unfolding past_break
-break_lends h = cond_lends (next_char h == 0x0D && slice_index h.unread.text 1 == 0x0A) (step (step h)) (step h)
+break_lends h = if_lends (next_char h == 0x0D && slice_index h.unread.text 1 == 0x0A) (step (step h)) (step h)
     h.unread.lends (step_lends (step h) ∙ step_lends h) (step_lends h)
 
 turn_behind : {at : LayoutData} {start : Mark} (line : ℕ) (s : PlainState)
@@ -234,9 +223,6 @@ copied_is at h n lends =
         (own (is_one_line (mark_of h) s.end) s value (b.lends ∙ lends))
     by (Err f) b = refl
 
-same_line : (a b : ℕ) → a ≡ b → (a == b) ≡ true
-same_line a b is = grind (arith, nat_tests, is)
-
 lent_as : (one : Bool) (h : Here) (front : List ℕ) → one ≡ true → h.unread.lends ≡ true
     → lent front ≡ lent_if one h front
 lent_as one h front y lends = rw (y, lends) refl
@@ -287,7 +273,7 @@ passed_is at h start front end blank now is n lends p =
         ap (λ (r : Result (List ℕ × PlainState) Fault). r >>= finished at start) (p.breaks y)
         ∙ behind rest y (rest_behind at start start.place.line (broken_state end (past_break now))) ∙ rw y refl
     by false y =
-        let one : is_one_line start end ≡ true = same_line start.place.line end.place.line (here ∙ sym p.end_line) in
+        let one : is_one_line start end ≡ true = eq-eqb start.place.line end.place.line (here ∙ sym p.end_line) in
         ap (λ (r : Result (List ℕ × PlainState) Fault). r >>= finished at start) (p.ends y)
         ∙ ended_is at start front (line_state end p.pending now) (lent front)
         (lent_as (is_one_line start end) now front one (p.lends ∙ lends))

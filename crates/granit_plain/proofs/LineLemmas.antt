@@ -105,7 +105,7 @@ pub word_stopped : (in_flow : Bool) (h : Here) (blank : Bool) → (next_char h =
 word_stopped in_flow h blank met = ap (λ b. is_content in_flow h.unread.text && not b) met
     ∙ and-false (is_content in_flow h.unread.text)
 
-no_content_at_end : (in_flow : Bool) → is_plain_word in_flow [] ≡ false
+pub no_content_at_end : (in_flow : Bool) → is_plain_word in_flow [] ≡ false
 unfolding is_blank_or_breakz is_breakz is_blank is_break is_z
 no_content_at_end in_flow = refl
 

@@ -3,15 +3,14 @@ use Rattle.std.proofs.Common.{◌≡◌, ℕ, zero, suc, ◌+◌, ◌<◌, ◌�
 use Rattle.std.proofs.Common.{◌∷◌, length, take, drop, slice_index, Option, Some, None, Result, Ok, refl, sym, ap, ◌∙◌}
 use Rattle.std.proofs.Common.{◌⊎◌, inl, inr, subst, arith, zero-add}
 use Rattle.std.proofs.Math.Bool.{and-false, or-true}
-use Rattle.std.proofs.lemmas.Bool.{and_parts, cases_Bool, eqb-true, or_parts}
+use Rattle.std.proofs.lemmas.Bool.{and_parts, cases_Bool, eqb-true, or_parts, eq-eqb}
 use Rattle.std.proofs.lemmas.Bool.Decides.{nat_tests}
-use Rattle.std.proofs.lemmas.List.{append-nil}
 use Rattle.granit_base.specs.Classes.{is_blank, is_blank_or_breakz, is_break, is_breakz, is_flow, is_printable, is_z}
 use Rattle.granit_base.specs.Classes.{is_within}
-use Rattle.granit_base.specs.Place.{Mark, Place, ends_line, first}
+use Rattle.granit_base.specs.Place.{Mark, Place, first}
 use Rattle.granit_base.specs.PlainContent.{is_content}
 use Rattle.granit_base.specs.Written.{lent}
-use Rattle.granit_runs.specs.Runs.{begins_word, is_plain_word, run_length, starts}
+use Rattle.granit_runs.specs.Runs.{is_plain_word, run_length, starts}
 use Rattle.granit_runs.specs.Words.{EndsBelow}
 use Rattle.granit_lexemes.specs.Basics.{past_break, unprintable}
 use Rattle.granit_lexemes.specs.Here.{Here, next_char, mark_of, step}
@@ -28,10 +27,10 @@ use Rattle.granit_scalars.proofs.Comments.{steps_text}
 use Rattle.granit_scalars.proofs.PlainTurns.{plain_shortens}
 use Rattle.granit_cursor.proofs.MoveLemmas.{Along, is_space, no_blanks, run_along, run_begins, space_line}
 use Rattle.granit_cursor.proofs.WordLemmas.{first_of, joined_line, plain_joins}
-use Rattle.granit_plain.specs.LineCode.{LinePassed, broken_state, further_scalar, line_scalar, text_of_lines}
+use Rattle.granit_plain.specs.LineCode.{LinePassed, broken_state, line_scalar, text_of_lines}
 use Rattle.granit_plain.specs.PlainCode.{ended_plain, plain_ended_by, plain_rest}
 use Rattle.granit_plain.proofs.FurtherLines.{passed_is}
-use Rattle.granit_plain.proofs.LineLemmas.{along_none, line_begins, line_over, run_over, word_goes}
+use Rattle.granit_plain.proofs.LineLemmas.{along_none, line_begins, line_over, run_over, word_goes, no_content_at_end}
 
 -- what is read of so many characters, which are lent
 abbrev pub words_read : Here → (count : ℕ) → (on_new_line : Bool) → PlainRead
@@ -92,10 +91,6 @@ stop_is c is = record {
 
 -- ---- the line of the scalar
 
-no_word_at_end : (in_flow : Bool) → is_plain_word in_flow [] ≡ false
-unfolding is_blank_or_breakz is_breakz is_blank is_break is_z
-no_word_at_end in_flow = refl
-
 module _ (at : LayoutData) (h : Here) (n : ℕ) (some : 0 < n)
     (whole : n ≡ run_length (is_plain_word at.in_flow) h.unread.text)
     (lends : h.unread.lends ≡ true) (dash : is_flow_dash at h.unread.text ≡ false)
@@ -113,7 +108,7 @@ module _ (at : LayoutData) (h : Here) (n : ℕ) (some : 0 < n)
   no_content : is_content at.in_flow behind.unread.text ≡ false
   no_content =
       ap (is_content at.in_flow) (steps_text n h)
-      ∙ (or_parts _ _ (run_over (is_plain_word at.in_flow) n h.unread.text (no_word_at_end at.in_flow) whole)).0
+      ∙ (or_parts _ _ (run_over (is_plain_word at.in_flow) n h.unread.text (no_content_at_end at.in_flow) whole)).0
 
   over_words : plain_rest at (mark_of h) (plain_start h)
       ≡ with_front front (plain_rest at (mark_of h) (plain_start behind))
@@ -217,9 +212,6 @@ feed_column : (h : Here) → next_char h ≡ 0x0A → (step h).place.column ≡ 
 unfolding step
 feed_column h is = rw (feed_some h.unread.text is, is) refl
 
-equal_is : (a b : ℕ) → a ≡ b → (a == b) ≡ true
-equal_is a b is = grind (arith, nat_tests, is)
-
 left_is : (n column : ℕ) → column ≤ n → is_left (Some n) column ≡ true
 left_is n column within = grind (arith, nat_tests, within)
 
@@ -274,7 +266,7 @@ module _ (at : LayoutData) (h : Here) (n : ℕ) (some : 0 < n)
       ∙ over
 
   same_line : is_one_line (mark_of h) end ≡ true
-  same_line = equal_is h.place.line end.place.line
+  same_line = eq-eqb h.place.line end.place.line
       (sym (ap (λ (p : Place). p.line) (along at h n some whole lends dash printable).place))
 
   -- the next line ends it, as it begins left of its block, or in flow with a flow indicator

@@ -3,7 +3,7 @@ use Rattle.std.proofs.Common.{◌≡◌, ℕ, zero, suc, ◌-◌, ◌<◌, ◌�
 use Rattle.std.proofs.Common.{drop, refl, sym, ap, ap₂, ◌∙◌, append_assoc, arith}
 use Rattle.std.proofs.lemmas.List.{append-nil, length-take-le, length-drop}
 use Rattle.granit_base.specs.Classes.{is_anchor_char, is_alpha, is_yaml_non_space, is_yaml_non_break, is_printable}
-use Rattle.granit_base.specs.Classes.{is_break, is_word_char, is_digit}
+use Rattle.granit_base.specs.Classes.{is_blank, is_break, is_breakz, is_word_char, is_digit, is_z}
 use Rattle.granit_base.specs.Place.{Unread, first}
 use Rattle.granit_base.specs.Written.{Written}
 use Rattle.granit_runs.specs.Runs.{run_length, starts}
@@ -15,15 +15,20 @@ use Rattle.granit_lexemes.specs.Here.{Here, text_len, next_char, step, past}
 use Rattle.granit_lexemes.proofs.HereLemmas.{step_text, step_len, step_shortens, past_goes, past_stops, past_len}
 use Rattle.granit_cursor.proofs.MoveLemmas.{KeepsLine, keeps_line, run_along, steps_past}
 use Rattle.granit_properties.specs.declared.word.Word.{Word}
-use Rattle.granit_properties.specs.declared.word.Word.TheVariants.{Name, Alpha, NonSpace}
+use Rattle.granit_properties.specs.declared.word.Word.TheVariants.{Name, Of}
+use Rattle.granit_runs.specs.declared.class.Class.TheVariants.{Alpha, NonSpace, Blank, Printable, NonBreakz}
 use Rattle.granit_properties.specs.WordCode.{word_test}
 
 -- NUL, which a look past the end gives, is in no word
 pub no_nul : (w : Word) → word_test w 0 ≡ false
 unfolding is_anchor_char is_alpha is_word_char is_digit is_yaml_non_space is_yaml_non_break is_printable is_break
+    is_blank is_breakz is_z
 no_nul Name = refl
-no_nul Alpha = refl
-no_nul NonSpace = refl
+no_nul (Of Alpha) = refl
+no_nul (Of NonSpace) = refl
+no_nul (Of Blank) = refl
+no_nul (Of Printable) = refl
+no_nul (Of NonBreakz) = refl
 
 pub some_char : (w : Word) (c : ℕ) → word_test w c ≡ true → 0 < c
 some_char w c e = by c refl
@@ -96,9 +101,13 @@ word_ends test h now old out failed so_far = sym (append-nil out)
 
 pub word_line : (w : Word) → KeepsLine (starts (word_test w))
 unfolding is_anchor_char is_alpha is_word_char is_digit is_yaml_non_space is_yaml_non_break is_printable is_break
+    is_blank is_breakz is_z
 word_line Name = keeps_line (word_test Name) refl refl
-word_line Alpha = keeps_line (word_test Alpha) refl refl
-word_line NonSpace = keeps_line (word_test NonSpace) refl refl
+word_line (Of Alpha) = keeps_line (word_test (Of Alpha)) refl refl
+word_line (Of NonSpace) = keeps_line (word_test (Of NonSpace)) refl refl
+word_line (Of Blank) = keeps_line (word_test (Of Blank)) refl refl
+word_line (Of Printable) = keeps_line (word_test (Of Printable)) refl refl
+word_line (Of NonBreakz) = keeps_line (word_test (Of NonBreakz)) refl refl
 
 -- how many characters a word has
 abbrev pub word_length : (ℕ → Bool) → Here → ℕ

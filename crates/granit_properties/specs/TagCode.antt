@@ -15,7 +15,7 @@ use Rattle.granit_properties.specs.declared.uri.Uri.TheVariants.{Whole, Tag}
 abbrev pub tag_read : TagText → TagRead
 tag_read t = tag_of (string_chars t.handle) (string_chars t.suffix)
 
--- what is spelled_tag behind a text
+-- what is spelled behind a text
 abbrev pub spelled_tag : Uri → Mark → List ℕ → Here → Result (List ℕ × Here) Fault
 spelled_tag uri start front h = with_front front (decoded (uri_test uri) start None h) >>= λ x. Ok (x.0, x.1.here)
 

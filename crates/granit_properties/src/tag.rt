@@ -16,7 +16,7 @@ use granit_base::{
 };
 use granit_cursor::{Cursor, Token, TokenType};
 use granit_error::{ErrorKind, ScanError};
-use granit_input::{BorrowedInput, Input};
+use granit_input::{BorrowedInput, Class, Input};
 use std::alloc::Global;
 
 /// The tag that begins here with its `!`, by its handle and what follows that, both owned; the cursor then
@@ -227,7 +227,7 @@ fn tag_at<T: Input>(
         return verbatim(alloc, cursor, in_flow, start);
     }
     let mut word = empty_text(alloc);
-    take_word(cursor, Word::Alpha, &mut word)?;
+    take_word(cursor, Word::Of(Class::Alpha), &mut word)?;
     cursor.look(1);
     if cursor.input().peek() == '!' {
         cursor.step();

@@ -7,21 +7,19 @@ ghost use Rattle.granit_lexemes.specs.Basics.{text_up_to};
 ghost use Rattle.granit_lexemes.specs.Here.{past};
 ghost use Rattle.granit_properties.specs.WordCode.{word_test, TakesWord};
 
-use granit_base::{NoMemory, Text, is_alpha, is_anchor_char, is_yaml_non_space, push_char};
+use granit_base::{NoMemory, Text, is_anchor_char, push_char};
 use granit_cursor::{Cursor, lending_offset, lent_since};
 use granit_error::ScanError;
-use granit_input::{BorrowedInput, Input};
+use granit_input::{BorrowedInput, Class, Input};
 use std::alloc::Global;
 
 /// The characters that a word is of.
 #[derive(Clone, Copy)]
 pub enum Word {
-    /// Those of an anchor's name (YAML 1.2.2, 6.9.2).
+    /// Those of an anchor's name (YAML 1.2.2, 6.9.2), which no run is made of.
     Name,
-    /// Those of a tag handle's name (YAML 1.2.2, 6.8.2).
-    Alpha,
-    /// All but blanks and breaks.
-    NonSpace,
+    /// Those of a class.
+    Of(Class),
 }
 
 impl Word {
@@ -30,8 +28,7 @@ impl Word {
     {
         match self {
             Word::Name => is_anchor_char(c),
-            Word::Alpha => is_alpha(c),
-            Word::NonSpace => is_yaml_non_space(c),
+            Word::Of(class) => class.contains(c),
         }
     }
 }

@@ -205,15 +205,13 @@ passes_one number i old fs f within is p =
     }
 
 -- the newest item that wasn't passed gets its flag
-pub passes_item : (number i : ℕ) (old : List FlaggedItem) (qs : List Queued) (q : Queued) (b : Bool) → i < length qs
-    → q ≡ get_or qs i q → b ≡ q.begins_key || is_numbered number (item_view q.item)
-    → Passed number (suc i) old (queue_view qs)
-    → Passed number i old (queue_view (set qs i (record { item = q.item; begins_key = b })))
-passes_item number i old qs q b within is flag p =
+pub passes_item : (number i : ℕ) (old : List FlaggedItem) (qs : List Queued) (q flagged : Queued) → i < length qs
+    → q ≡ get_or qs i q → queued_view flagged ≡ flags_of number (queued_view q)
+    → Passed number (suc i) old (queue_view qs) → Passed number i old (queue_view (set qs i flagged))
+passes_item number i old qs q flagged within is flag p =
     let long : length (queue_view qs) ≡ length qs = length-map qs queued_view in
     subst (Passed number i old)
-    (sym (map-set queued_view qs i (record { item = q.item; begins_key = b })
-    ∙ ap (λ (v : Bool). set (queue_view qs) i (record { item = item_view q.item; begins_key = v })) flag))
+    (sym (map-set queued_view qs i flagged ∙ ap (λ (f : FlaggedItem). set (queue_view qs) i f) flag))
     (passes_one number i old (queue_view qs) (queued_view q) (omega arith)
     (ap queued_view is ∙ sym (get_or-map queued_view qs i q (queued_view q) within)) p)
 
@@ -222,7 +220,7 @@ pub passed_all : (number : ℕ) (old fs : List FlaggedItem) → Passed number 0 
 passed_all number old fs p = sym (all_stay number fs (λ j d low. p.newer j d (omega arith) low)) ∙ p.told
 
 -- none before a lexeme of a lower number is meant
-pub passed_enough : (number i : ℕ) (old : List FlaggedItem) (qs : List Queued) (q : Queued) → i < length qs
+passed_enough : (number i : ℕ) (old : List FlaggedItem) (qs : List Queued) (q : Queued) → i < length qs
     → q ≡ get_or qs i q → is_before number (lexeme_number (item_view q.item)) ≡ true
     → Passed number (suc i) old (queue_view qs) → queue_view qs ≡ map (flags_of number) old
 passed_enough number i old qs q within is before p =
@@ -249,3 +247,15 @@ passed_enough number i old qs q within is before p =
     itself : (n : Option ℕ) → NumberUpTo n n
     itself None = tt
     itself (Some n) = omega arith
+
+-- the same where it got its flag
+pub passed_by : (number i : ℕ) (old : List FlaggedItem) (qs : List Queued) (q flagged : Queued) → i < length qs
+    → q ≡ get_or qs i q → queued_view flagged ≡ flags_of number (queued_view q)
+    → is_before number (lexeme_number (item_view q.item)) ≡ true
+    → Passed number (suc i) old (queue_view qs) → queue_view (set qs i flagged) ≡ map (flags_of number) old
+passed_by number i old qs q flagged within is flag before p =
+    let step = passes_item number i old qs q flagged within is flag p in
+    passed_enough number i old (set qs i flagged) flagged (rw (length-set qs i flagged) within)
+    (sym (get_or-set_same qs i flagged flagged within))
+    (ap (λ (f : FlaggedItem). is_before number (lexeme_number f.item)) flag ∙ before)
+    (record { told = step.told; order = step.order; newer = λ j d past low. step.newer j d (omega arith) low })

@@ -4,10 +4,9 @@ ghost use Rattle.std.specs.Prelude.{slice_get};
 ghost use Rattle.std.specs.Option.{option_copied};
 ghost use Rattle.granit_items.specs.ItemViews.{item_view};
 ghost use Rattle.granit_queue.specs.QueueViews.{flags_of, is_numbered, queue_view, queued_view};
-ghost use Rattle.granit_queue.specs.Rising.{Rises};
+ghost use Rattle.granit_queue.specs.Rising.{is_before, lexeme_number, Rises};
 
 use crate::queue::Queued;
-use crate::rising::is_before;
 use granit_base::NoMemory;
 use granit_items::Item;
 use std::alloc::Global;
@@ -171,11 +170,28 @@ fn mark_newest(items: &mut VecDeque<Queued<'_>>, number: usize)
     let mut newer = items.len();
     'items: while newer > 0 {
         let i = newer - 1;
-        if is_before(&items[i].item, number) {
+        if flag_or_before(&mut items[i], number) {
             return;
         }
-        items[i].begins_key = either(items[i].begins_key, is_number(&items[i].item, number));
         newer = i;
+    }
+}
+
+/// Flags an item, where it is the lexeme of a number; whether it is an earlier one.
+#[inline(always)]
+fn flag_or_before(queued: &mut Queued<'_>, number: usize) -> bool
+    ensures flag { queued_view queued.new ≡ flags_of number (queued_view queued.old) }
+    ensures before { result ≡ is_before number (lexeme_number (item_view queued.old.item)) }
+{
+    match &queued.item {
+        Item::Lexeme(lexeme) => {
+            if lexeme.number == number {
+                queued.begins_key = true;
+                return false;
+            }
+            lexeme.number < number
+        }
+        Item::Note(_) => false,
     }
 }
 

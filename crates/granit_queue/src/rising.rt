@@ -42,13 +42,3 @@ impl Numbers {
         self.last = self.last.max(number);
     }
 }
-
-/// Whether an item is a lexeme before that of a number.
-pub(crate) fn is_before(item: &Item<'_>, number: usize) -> bool
-    ensures { result ≡ rising.is_before number (rising.lexeme_number (item_view item.now)) }
-{
-    match item {
-        Item::Lexeme(lexeme) => lexeme.number < number,
-        Item::Note(_) => false,
-    }
-}

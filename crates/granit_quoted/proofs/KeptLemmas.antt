@@ -1,7 +1,8 @@
 -- What stands for itself in front of a quoted scalar, taken without a turn for each character.
 use Rattle.std.proofs.Common.{◌≡◌, ℕ, zero, suc, ◌+◌, ◌≤◌, ◌<◌, ◌==◌, Bool, true, false, not, ◌&&◌, ◌||◌, cond}
-use Rattle.std.proofs.Common.{List, [], ◌∷◌, ◌++◌, length, take, drop, slice_index, map, Some, Result, Ok, Err}
+use Rattle.std.proofs.Common.{List, [], ◌∷◌, ◌++◌, length, take, drop, slice_index, Some, Result, Ok, Err}
 use Rattle.std.proofs.Common.{refl, sym, ap, ap₂, ◌∙◌, append_assoc, arith, inl, inr}
+use Rattle.std.proofs.Math.Bool.{and-false}
 use Rattle.std.proofs.lemmas.Bool.{and_parts, cases_Bool, eqb-true, or_parts}
 use Rattle.std.proofs.lemmas.Bool.Decides.{nat_tests}
 use Rattle.std.proofs.lemmas.List.{append-nil}
@@ -300,10 +301,6 @@ pub kept_more : (cs : List ℕ) (p : QuotedTaken) (c : ℕ)
 kept_more [] p c = refl
 kept_more (d ∷ cs) p c = kept_more cs (kept_char p d) c
 
-pub as_they_are : (cs : List ℕ) → cs ≡ map (λ c. c) cs
-as_they_are [] = refl
-as_they_are (c ∷ cs) = ap (λ (ds : List ℕ). c ∷ ds) (as_they_are cs)
-
 quoted_solid : (single : Bool) (c : ℕ) → is_quoted_char single c ≡ true → is_blank c ≡ false
 unfolding is_blank is_printable
 quoted_solid true c y = grind (arith, nat_tests)
@@ -438,10 +435,6 @@ own_rest single at start h (Ok x) n = ap (λ (t : Written). quoted_tail single a
     (own_text single h (x.0 ++ between_quoted x.1) n)
 own_rest single at start h (Err f) n = refl
 
-and_none : (a : Bool) → (a && false) ≡ false
-and_none true = refl
-and_none false = refl
-
 pub text_behind : (single : Bool) (h : Here) (n : ℕ) → (steps n h).unread.text ≡ drop n h.unread.text
     → n ≡ run_length (starts (is_kept single)) h.unread.text
     → is_verbatim single h.unread.text ≡ is_closing single (steps n h).unread.text
@@ -487,7 +480,7 @@ copied_is single at h start is lends =
     ap (λ (m : Mark). rest_of single at m (quoted_text single g) (quoted_rest single at m (quoted_at false g))) (sym is)
     ∙ ap (rest_of single at start (quoted_text single g)) (sym (quoted_begins single at start begun g refl refl))
     ∙ own_rest single at start g _ (ap (λ b. is_verbatim single g.unread.text && b) lends
-    ∙ and_none (is_verbatim single g.unread.text))
+    ∙ and-false (is_verbatim single g.unread.text))
 
 pub taken_given : (single : Bool) (at : LayoutData) (start : Mark) (p : QuotedTaken) (h : Here)
     (value whole : List ℕ) (s : QuotedState)

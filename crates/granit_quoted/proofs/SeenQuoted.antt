@@ -3,6 +3,7 @@ use Rattle.std.proofs.Common.{◌≡◌, ℕ, ◌+◌, ◌<◌, ◌≤◌, ◌==
 use Rattle.std.proofs.Common.{length, take, drop, None, Ok, refl, sym, ap, ◌∙◌, subst, arith}
 use Rattle.std.proofs.lemmas.Bool.Decides.{nat_tests}
 use Rattle.std.proofs.Math.Seq.{take-append_seam}
+use Rattle.std.proofs.lemmas.Bool.{eq-eqb}
 use Rattle.granit_base.specs.Classes.{is_blank, is_break, is_gap, is_printable}
 use Rattle.granit_base.specs.Place.{Mark, Place, first}
 use Rattle.granit_base.specs.Written.{Written}
@@ -68,9 +69,6 @@ some_left : (text : List ℕ) → 0 < first text → (length text == 0) ≡ fals
 some_left [] some = absurd (omega (arith, some))
 some_left (c ∷ cs) some = grind (arith, nat_tests)
 
-same_line : (a b : ℕ) → a ≡ b → (a == b) ≡ true
-same_line a b is = grind (arith, nat_tests, is)
-
 -- no comment begins there, and nothing is refused
 tail_ends : (single : Bool) (at : LayoutData) (start : Mark) (text : Written) (h : Here) → Ends at (next_char h)
     → h.place.line ≡ start.place.line
@@ -84,7 +82,7 @@ tail_ends single at start text h e line =
       e.no_hash,
       some_left h.unread.text e.some,
       e.prints,
-      same_line h.place.line start.place.line
+      eq-eqb h.place.line start.place.line
           line,
       e.trails,
     ) refl

@@ -1,7 +1,7 @@
 -- Where a read takes no memory, by its parts.
-use Rattle.std.proofs.Common.{◌≡◌, ℕ, ◌≤◌, Bool, true, false, ◌&&◌, not, nat_le, if◌then◌else◌, List, [], ◌∷◌, length}
-use Rattle.std.proofs.Common.{Option, Some, None, Result, Ok, Err, ◌⊎◌, inl, inr, refl, sym, ap, subst, ◌∙◌, arith}
-use Rattle.std.proofs.lemmas.Bool.Decides.{nat_tests}
+use Rattle.std.proofs.Common.{◌≡◌, Bool, true, false, ◌&&◌, not, nat_le, if◌then◌else◌, List, [], ◌∷◌, length}
+use Rattle.std.proofs.Common.{Option, Some, None, Result, Ok, Err, ◌⊎◌, inl, inr, refl, sym, ap, subst, ◌∙◌}
+use Rattle.std.proofs.lemmas.Bool.{not-true}
 use Rattle.granit_base.specs.Place.{Mark, Place}
 use Rattle.granit_error.specs.FaultKind.{SimpleKeyExpected}
 use Rattle.granit_error.specs.OptionsData.{OptionsData}
@@ -29,12 +29,8 @@ use Rattle.granit_reader.specs.WithoutMemory.{entry_opens, colon_opens_column, p
 use Rattle.granit_reader.specs.WithoutMemory.{fresh_takes_none, behind_takes_none, gap_takes_none, read_takes_none}
 use Rattle.granit_signs.specs.IndicatorReads.{begins_entry, colon_begins_entry, pair_column}
 
-not_so : (b : Bool) → not b ≡ true → b ≡ false
-not_so true is = absurd cc
-not_so false is = refl
-
 neither : (a b : Bool) → not (a && b) ≡ true → (a ≡ false) ⊎ (b ≡ false)
-neither true b is = inr (not_so b is)
+neither true b is = inr (not-true b is)
 neither false b is = inl refl
 
 -- by what a cursor that stands there tells
@@ -52,10 +48,6 @@ module _ (o : OptionsData) (h : Here) (place : Place) (begins_line : Bool) (tab 
   no_pair none =
       rw (first, second, third) at (neither (colon_begins_entry (top_key l) (is_allowed h.begins_line h.tab l) l)
       (opens_column o (pair_column (top_key l) h.place.column) l.columns) none)
-
--- a test of a limit, as it is
-pub at_least : (m n : ℕ) → nat_le m n ≡ true → m ≤ n
-at_least m n is = grind (arith, nat_tests)
 
 -- where a node begins, as many brackets are open as before
 same_depth : (key : Option PossibleKey) (bs : List OpenBracket) → length (keyed_brackets key bs) ≡ length bs

@@ -1,53 +1,26 @@
 -- What the sort of a lexeme says of the text that it begins.
-use Rattle.std.proofs.Common.{◌≡◌, ℕ, ◌==◌, ◌&&◌, ◌||◌, not, Bool, true, false, inl, inr, refl, arith}
+use Rattle.std.proofs.Common.{◌≡◌, ℕ, ◌==◌, ◌&&◌, ◌||◌, not, Bool, true, false, inl, inr, refl}
+use Rattle.std.proofs.Math.Bool.{and-false}
 use Rattle.std.specs.Prelude.{slice_index}
-use Rattle.std.proofs.lemmas.Bool.{cases_Bool, and_parts, or_parts, eqb-true}
-use Rattle.std.proofs.lemmas.Bool.Decides.{nat_tests}
-use Rattle.granit_base.specs.Classes.{is_z, is_break, is_breakz, is_blank, is_blank_or_breakz, is_flow, is_bom, is_gap}
+use Rattle.std.proofs.lemmas.Bool.{cases_Bool, and_parts, eqb-true, ne_eqb, not-false}
+use Rattle.granit_base.specs.Classes.{is_blank_or_breakz, is_flow, is_bom, is_gap}
 use Rattle.granit_base.specs.Classes.{is_printable}
 use Rattle.granit_base.specs.PlainContent.{is_content}
 use Rattle.granit_lexemes.specs.Basics.{is_document_mark}
 use Rattle.granit_lexemes.specs.BlockScalar.{block_indicator}
 use Rattle.granit_lexemes.specs.Here.{Here, text_len, next_char}
 use Rattle.granit_lexemes.specs.QuotedScalar.{quote_char}
+use Rattle.granit_machine.proofs.SortLemmas.{no_colon, no_gap_or_nul}
 use Rattle.granit_machine.specs.LexemeSort.{sort_of, sort_at}
 use Rattle.granit_reader.specs.SortViews.{PlacedFits, SortFits}
-
--- the character behind it tells only whether an indicator stands there
-other_char : (c k : ℕ) → (c ≡ k → ⊥) → (c == k) ≡ false
-other_char c k other = grind (arith, nat_tests, other)
 
 pub any_next : (c next other : ℕ) → (c ≡ 0x2D → ⊥) → (c ≡ 0x3F → ⊥) → (c ≡ 0x3A → ⊥) → (in_flow adjacent : Bool)
     → sort_of in_flow adjacent c next ≡ sort_of in_flow adjacent c other
 unfolding sort_of
 any_next c next other dash question colon in_flow adjacent =
-    rw (other_char c 0x2D dash, other_char c 0x3F question, other_char c 0x3A colon) refl
+    rw (ne_eqb c 0x2D dash, ne_eqb c 0x3F question, ne_eqb c 0x3A colon) refl
 
 -- ---- content of a plain scalar
-
-not_nul : (c : ℕ) → is_printable c ≡ true → is_z c ≡ false
-unfolding is_z is_printable is_break
-not_nul c printable =
-    elim (cases_Bool (c == 0x00)) [
-      | inl nul ↦ absurd (let zero : c ≡ 0x00 = eqb-true c 0x00 nul in let none = rw zero at printable in cc)
-      | inr other ↦ other
-    ]
-
-shows : (c : ℕ) → is_gap c ≡ false → is_printable c ≡ true → is_blank_or_breakz c ≡ false
-unfolding is_gap is_blank_or_breakz is_breakz
-shows c clear printable = let gap = or_parts (is_blank c) (is_break c) clear in rw (gap.0, gap.1, not_nul c printable)
-    refl
-
-no_colon : (a b i f near : Bool) → (a && (b || (i && (f || near)))) ≡ false → (a && (b || (i && f))) ≡ false
-no_colon false b i f near none = refl
-no_colon true true i f near none = absurd cc
-no_colon true false false f near none = refl
-no_colon true false true true near none = absurd cc
-no_colon true false true false near none = refl
-
-in_flow_or : (i : Bool) → (i && false) ≡ false
-in_flow_or true = refl
-in_flow_or false = refl
 
 content : (in_flow near : Bool) (h : Here) → is_gap (next_char h) ≡ false → is_printable (next_char h) ≡ true
     → (next_char h == 0x3A && (is_blank_or_breakz (slice_index h.unread.text 1)
@@ -55,11 +28,11 @@ content : (in_flow near : Bool) (h : Here) → is_gap (next_char h) ≡ false �
     → is_content in_flow h.unread.text ≡ true
 content in_flow near h clear printable colon flow =
     rw (
-      shows (next_char h) clear printable,
+      no_gap_or_nul (next_char h) clear printable,
       no_colon (next_char h == 0x3A)
           (is_blank_or_breakz (slice_index h.unread.text 1)) in_flow (is_flow (slice_index h.unread.text 1)) near colon,
       flow,
-      in_flow_or in_flow,
+      and-false in_flow,
     ) refl
 
 no_flow : (c : ℕ) → (c == 0x2C) ≡ false → (c == 0x5B) ≡ false → (c == 0x5D) ≡ false → (c == 0x7B) ≡ false
@@ -157,10 +130,6 @@ placed_fits in_flow near h clear printable =
           ])
     ]
 
-not_not : (b : Bool) → not b ≡ false → b ≡ true
-not_not true e = refl
-not_not false e = absurd cc
-
 pub sort_fits : (in_flow near : Bool) (h : Here) → is_gap (next_char h) ≡ false
     → SortFits in_flow (sort_at in_flow near h) h
 unfolding sort_at
@@ -177,7 +146,7 @@ sort_fits in_flow near h clear =
                   | inr printable ↦ rw printable (
                       elim (cases_Bool (h.place.column == 0 && c == 0x25)) [
                         | inl e ↦ rw e (eqb-true c 0x25 (and_parts (h.place.column == 0) (c == 0x25) e).1)
-                        | inr other ↦ rw other (placed_fits in_flow near h clear (not_not (is_printable c) printable))
+                        | inr other ↦ rw other (placed_fits in_flow near h clear (not-false (is_printable c) printable))
                       ])
                 ])
           ])

@@ -237,7 +237,8 @@ fn is_start_expected(error: &ScanError) -> bool
 
 /// Whether an item is a mark.
 pub fn is_mark(item: &Item<'_>) -> bool
-    ensures { result ≡ false → spec.mark_of_item (item_view item.now) ≡ None }
+    ensures none { result ≡ false → spec.mark_of_item (item_view item.now) ≡ None }
+    ensures marked { spec.mark_of_item (item_view item.now) ≡ None → result ≡ false }
 {
     match item {
         Item::Note(_) => false,

@@ -7,7 +7,7 @@ use Rattle.std.proofs.lemmas.Bool.Decides.{nat_tests}
 use Rattle.granit_base.specs.Classes.{is_blank, is_bom, is_break}
 use Rattle.granit_lexemes.proofs.CharTests.{no_break_noted, blank_apart_from_break}
 use Rattle.granit_lexemes.proofs.HereLemmas.{step_text}
-use Rattle.granit_lexemes.specs.Comment.{is_comment_char}
+use Rattle.granit_lexemes.specs.Comment.{is_line_char}
 use Rattle.granit_lexemes.specs.Gap.{Each}
 use Rattle.granit_lexemes.specs.Here.{Here, next_char, step}
 use Rattle.granit_lexemes.specs.Moves.{past_prefix_mark, steps}
@@ -25,11 +25,11 @@ record NoteTo (text : List ℕ) (h k : Here) : Type 0 where
   note : List ℕ
   behind : List ℕ
   spelled : text ≡ note ++ behind
-  each : Each is_comment_char note
+  each : Each is_line_char note
   ends : IsLineEnd behind
   lands : k ≡ steps (length note) h
 
-note_more : (c : ℕ) (cs : List ℕ) (h k : Here) → is_comment_char c ≡ true → NoteTo cs (step h) k → NoteTo (c ∷ cs) h k
+note_more : (c : ℕ) (cs : List ℕ) (h k : Here) → is_line_char c ≡ true → NoteTo cs (step h) k → NoteTo (c ∷ cs) h k
 unfolding steps
 note_more c cs h k e p = record {
   note = c ∷ p.note;
@@ -51,7 +51,7 @@ note_ends text h k ends e = record {
   lands = let s : k ≡ h = cc in s;
 }
 
-note_by : (b d : Bool) (c : ℕ) (cs : List ℕ) (h k : Here) → is_break c ≡ b → is_comment_char c ≡ d
+note_by : (b d : Bool) (c : ℕ) (cs : List ℕ) (h k : Here) → is_break c ≡ b → is_line_char c ≡ d
     → (past_note cs (step h) ≡ Some k → NoteTo cs (step h) k)
     → (if b then Some h else if d then past_note cs (step h) else None) ≡ Some k → NoteTo (c ∷ cs) h k
 note_by true d c cs h k b-is d-is more e = note_ends (c ∷ cs) h k b-is e
@@ -60,7 +60,7 @@ note_by false false c cs h k b-is d-is more e = absurd (cc)
 
 note_to : (text : List ℕ) (h k : Here) → past_note text h ≡ Some k → NoteTo text h k
 note_to [] h k e = note_ends [] h k tt e
-note_to (c ∷ cs) h k e = note_by (is_break c) (is_comment_char c) c cs h k refl refl (note_to cs (step h) k) e
+note_to (c ∷ cs) h k e = note_by (is_break c) (is_line_char c) c cs h k refl refl (note_to cs (step h) k) e
 
 -- the rest of a line up to its end
 record LineTo (text : List ℕ) (h k : Here) : Type 0 where
@@ -126,18 +126,18 @@ line_to (c ∷ cs) h k e = line_by (is_break c) (is_blank c) (c == 0x23) c cs h 
 
 -- and the other way round
 
-note_read : (note behind : List ℕ) (h : Here) → Each is_comment_char note → IsLineEnd behind
+note_read : (note behind : List ℕ) (h : Here) → Each is_line_char note → IsLineEnd behind
     → past_note (note ++ behind) h ≡ Some (steps (length note) h)
 unfolding steps
 note_read [] [] h each ends = refl
 note_read [] (c ∷ cs) h each ends =
-    ap (λ b. if b then Some h else if is_comment_char c then past_note cs (step h) else None) ends
+    ap (λ b. if b then Some h else if is_line_char c then past_note cs (step h) else None) ends
 note_read (c ∷ cs) behind h each ends =
     ap₂ (λ a b. if a then Some h else if b then past_note (cs ++ behind) (step h) else None)
     (no_break_noted c each.0) each.0
     ∙ note_read cs behind (step h) each.1 ends
 
-hash_read : (note behind : List ℕ) (h : Here) → Each is_comment_char note → IsLineEnd behind
+hash_read : (note behind : List ℕ) (h : Here) → Each is_line_char note → IsLineEnd behind
     → finished_line (0x23 ∷ (note ++ behind)) h ≡ Some (steps (suc (length note)) h)
 unfolding steps is_break is_blank
 hash_read note behind h each ends = note_read note behind (step h) each ends

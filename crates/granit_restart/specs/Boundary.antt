@@ -2,7 +2,7 @@
 use Rattle.std.specs.Prelude.{ℕ, Bool, true, false, ◌==◌, ◌&&◌, ◌||◌, if◌then◌else◌, List, [], ◌∷◌, drop, Option}
 use Rattle.std.specs.Prelude.{Some, None}
 use Rattle.granit_base.specs.Classes.{is_blank, is_bom, is_break}
-use Rattle.granit_lexemes.specs.Comment.{is_comment_char}
+use Rattle.granit_lexemes.specs.Comment.{is_line_char}
 use Rattle.granit_lexemes.specs.Here.{Here, next_char, step}
 use Rattle.granit_lexemes.specs.Moves.{past_prefix_mark, steps}
 
@@ -28,7 +28,7 @@ is_mark_of sign text = false
 abbrev pub past_note : List ℕ → Here → Option Here
 past_note [] h = Some h
 past_note (c ∷ cs) h =
-    if is_break c then Some h else if is_comment_char c then past_note cs (step h) else None
+    if is_break c then Some h else if is_line_char c then past_note cs (step h) else None
 
 -- behind the blanks and the comment that finish a line, where nothing else stands on it
 abbrev pub finished_line : List ℕ → Here → Option Here

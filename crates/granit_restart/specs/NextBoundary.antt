@@ -1,7 +1,7 @@
 -- What a boundary is, and which one is next, said without looking for it.
 use Rattle.std.specs.Prelude.{◌≡◌, ℕ, true, false, ◌==◌, ◌&&◌, List, [], ◌∷◌, ◌++◌, length}
 use Rattle.granit_base.specs.Classes.{is_blank, is_bom, is_break}
-use Rattle.granit_lexemes.specs.Comment.{is_comment_char}
+use Rattle.granit_lexemes.specs.Comment.{is_line_char}
 use Rattle.granit_lexemes.specs.Gap.{Each}
 use Rattle.granit_lexemes.specs.Here.{Here, next_char, step}
 use Rattle.granit_lexemes.specs.Moves.{steps}
@@ -15,7 +15,7 @@ IsLineEnd (c ∷ cs) = is_break c ≡ true
 -- what may finish the line of a `...`: blanks, and a comment behind them
 pub data Finishes : List ℕ → Type 0 where
   only_blanks : {blanks : List ℕ} → Each is_blank blanks → Finishes blanks
-  with_comment : (blanks note : List ℕ) → Each is_blank blanks → Each is_comment_char note
+  with_comment : (blanks note : List ℕ) → Each is_blank blanks → Each is_line_char note
       → Finishes (blanks ++ 0x23 ∷ note)
 
 -- a boundary stands here

@@ -7,7 +7,7 @@ use Rattle.std.specs.Char.{encode_utf8}
 use Rattle.std.specs.Str.{chars, encode_utf8_all, is_utf8}
 use Rattle.std.proofs.lemmas.Str.{chars_past_char, encode_ascii, encodes-append, IsUtf8-past_char, IsUtf8-from_is_utf8}
 use Rattle.std.proofs.lemmas.Str.{is_utf8-from_IsUtf8, encodes-chars, chars-nil}
-use Rattle.std.proofs.lemmas.Bool.{cases_Bool}
+use Rattle.std.proofs.lemmas.Bool.{cases_Bool, or_right}
 use Rattle.std.proofs.lemmas.List.{drop_all}
 use Rattle.std.proofs.lemmas.Bool.Decides.{nat_tests}
 use Rattle.granit_base.specs.Classes.{is_blank, is_blank_or_breakz, is_break, is_breakz, is_printable, is_within, is_z}
@@ -110,10 +110,6 @@ ascii_below : (in_flow : Bool) (c : ℕ) → (not (c == 0x23) && is_plain_ascii 
 ascii_below true c y = (grind (arith, nat_tests), grind (arith, nat_tests))
 ascii_below false c y = (grind (arith, nat_tests), grind (arith, nat_tests))
 
-pub either : (a b : Bool) → b ≡ true → (a || b) ≡ true
-either true b y = refl
-either false b y = y
-
 -- a space before such a character
 pub space_ascii : (in_flow : Bool) (c next : ℕ) (after : List ℕ) → c ≡ 0x20
     → (not (next == 0x23) && is_plain_ascii in_flow next) ≡ true
@@ -121,7 +117,7 @@ pub space_ascii : (in_flow : Bool) (c next : ℕ) (after : List ℕ) → c ≡ 0
 space_ascii in_flow c next after is y seen =
     let below = ascii_below in_flow next y in
     let there : first after ≡ next = seen is below.0 below.1 in
-    either (is_content in_flow (c ∷ after)) (c == 0x20 && begins_word in_flow (first after))
+    or_right (is_content in_flow (c ∷ after)) (c == 0x20 && begins_word in_flow (first after))
     (rw (is, there) (begins_ascii in_flow next y))
 
 -- ---- blanks

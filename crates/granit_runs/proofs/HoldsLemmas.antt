@@ -4,7 +4,7 @@ use Rattle.std.proofs.Common.{length, drop, refl, sym, ap, ◌∙◌, inl, inr, 
 use Rattle.std.specs.Char.{encode_utf8}
 use Rattle.std.specs.List.{list_any}
 use Rattle.std.specs.Str.{chars, encode_utf8_all, is_utf8}
-use Rattle.std.proofs.lemmas.Bool.{cases_Bool}
+use Rattle.std.proofs.lemmas.Bool.{cases_Bool, or_right}
 use Rattle.std.proofs.lemmas.Bool.Decides.{nat_tests}
 use Rattle.std.proofs.lemmas.Str.{encodes-chars, IsUtf8-from_is_utf8}
 use Rattle.granit_runs.specs.White.{holds}
@@ -13,10 +13,6 @@ use Rattle.granit_runs.proofs.WhiteLemmas.{or_more}
 pub any_holds : (c : ℕ) (xs : List ℕ) → list_any (λ y. nat_eq y c) xs ≡ holds c xs
 any_holds c [] = refl
 any_holds c (x ∷ xs) = ap (λ (b : Bool). (x == c) || b) (any_holds c xs)
-
-or_right : (a b : Bool) → b ≡ true → (a || b) ≡ true
-or_right true b e = refl
-or_right false b e = e
 
 holds_append : (c : ℕ) (xs ys : List ℕ) → holds c (xs ++ ys) ≡ (holds c xs || holds c ys)
 holds_append c [] ys = refl

@@ -6,7 +6,7 @@ use lib.Count.{count_trailing_zeros}
 use Rattle.std.specs.List.{prefix_len}
 use Rattle.std.specs.Simd.Lanes.{chunk, zip2, sel_l, top, mask_l}
 use Rattle.std.specs.Str.{chars, is_utf8}
-use Rattle.std.proofs.lemmas.Bool.{and_parts, cases_Bool, eqb-true}
+use Rattle.std.proofs.lemmas.Bool.{and_parts, cases_Bool, eqb-true, or_right}
 use Rattle.std.proofs.lemmas.Bool.Decides.{nat_tests}
 use Rattle.std.proofs.lemmas.List.{get_or-map, length-map}
 use Rattle.std.proofs.lemmas.List.Sums.{prefix_len-le-length, prefix_len_passes}
@@ -18,7 +18,7 @@ use Rattle.granit_runs.specs.Cuts.{IsAsciiFront}
 use Rattle.granit_runs.specs.Lanes.{TakesByte, lane, lanes_where}
 use Rattle.granit_runs.specs.Runs.{is_line_char, is_plain_ascii, is_plain_word, is_quoted_ascii, is_quoted_char}
 use Rattle.granit_runs.specs.Runs.{is_quoted_word, starts}
-use Rattle.granit_runs.proofs.AsciiLemmas.{ascii_more, either, first_byte, line_ascii, space_ascii, utf8_after}
+use Rattle.granit_runs.proofs.AsciiLemmas.{ascii_more, first_byte, line_ascii, space_ascii, utf8_after}
 use Rattle.granit_runs.proofs.AsciiLemmas.{word_ascii}
 
 -- ---- what operations leave in the lanes
@@ -264,7 +264,7 @@ quoted_sure single = record {
         let is : c ≡ 0x20 = eqb-true c 0x20 parts.0 in
         let between = quoted_between single n parts.1 in
         let there : first after ≡ n = seen is between.0 between.1 in
-        either (is_quoted_char single c) (c == 0x20 && is_quoted_char single (first after))
+        or_right (is_quoted_char single c) (c == 0x20 && is_quoted_char single (first after))
         (rw (is, there) (quoted_is single n parts.1))
   ];
 }

@@ -1,8 +1,9 @@
 -- What stands among blanks.
 use Rattle.std.proofs.Common.{◌≡◌, Ok, Err, ℕ, zero, suc, ◌+◌, ◌<◌, ◌==◌, ◌||◌, Bool, true, false, List, [], ◌∷◌, ◌++◌}
 use Rattle.std.proofs.Common.{length, take, drop, refl, ap, ◌∙◌, arith}
-use Rattle.std.proofs.lemmas.Bool.Decides.{nat_tests}
+use Rattle.std.proofs.Math.Bool.{or-false}
 use Rattle.std.proofs.Math.Seq.{take-add}
+use Rattle.std.proofs.lemmas.Bool.{eq-eqb, ne_eqb}
 use Rattle.granit_error.specs.declared.kind.ErrorKind.TheVariants.{CommentNotSeparated}
 use Rattle.granit_base.specs.Place.{first}
 use Rattle.granit_runs.specs.White.{holds, is_skipped, whitespace_found, found_more, white_skipped, comment_length}
@@ -21,12 +22,8 @@ pub or_more : (a b c : Bool) → (a || (b || c)) ≡ ((a || b) || c)
 or_more true b c = refl
 or_more false b c = refl
 
-or_none : (a : Bool) → (a || false) ≡ a
-or_none true = refl
-or_none false = refl
-
 holds_more : (c x : ℕ) (xs : List ℕ) → holds c (xs ++ x ∷ []) ≡ (holds c xs || (x == c))
-holds_more c x [] = or_none (x == c)
+holds_more c x [] = or-false (x == c)
 holds_more c x (y ∷ xs) = ap (λ (b : Bool). (y == c) || b) (holds_more c x xs) ∙ or_more (y == c) (holds c xs) (x == c)
 
 one_more : (text : List ℕ) → 0 < length text → take 1 text ≡ first text ∷ []
@@ -52,20 +49,14 @@ pub passes_some : (test : List ℕ → Bool) (text : List ℕ) → test [] ≡ f
 passes_some test [] nul go = absurd cc
 passes_some test (c ∷ cs) nul go = omega arith
 
-test_true : (m n : ℕ) → m ≡ n → (m == n) ≡ true
-test_true m n e = grind (arith, nat_tests, e)
-
-test_false : (m n : ℕ) → (m ≡ n → ⊥) → (m == n) ≡ false
-test_false m n e = grind (arith, nat_tests, e)
-
 pub white_without : (blanks : ℕ) (text : List ℕ) → (first (drop blanks text) ≡ 0x23 → ⊥)
     → white_skipped blanks text ≡ (blanks, Ok (whitespace_found (take blanks text)))
-white_without blanks text none = rw (test_false (first (drop blanks text)) 0x23 none) refl
+white_without blanks text none = rw (ne_eqb (first (drop blanks text)) 0x23 none) refl
 
 pub white_refused : (blanks : ℕ) (text : List ℕ) → first (drop blanks text) ≡ 0x23 → blanks ≡ 0
     → white_skipped blanks text ≡ (0, Err CommentNotSeparated)
-white_refused blanks text here none = rw (test_true (first (drop blanks text)) 0x23 here, test_true blanks 0 none) refl
+white_refused blanks text here none = rw (eq-eqb (first (drop blanks text)) 0x23 here, eq-eqb blanks 0 none) refl
 
 pub white_comment : (blanks : ℕ) (text : List ℕ) → first (drop blanks text) ≡ 0x23 → (blanks ≡ 0 → ⊥)
     → white_skipped blanks text ≡ (blanks + comment_length blanks text, Ok (whitespace_found (take blanks text)))
-white_comment blanks text here some = rw (test_true (first (drop blanks text)) 0x23 here, test_false blanks 0 some) refl
+white_comment blanks text here some = rw (eq-eqb (first (drop blanks text)) 0x23 here, ne_eqb blanks 0 some) refl

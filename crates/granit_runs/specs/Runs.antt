@@ -2,8 +2,9 @@
 use Rattle.std.specs.Prelude.{ℕ, zero, suc, ◌==◌, ◌&&◌, ◌||◌, not, Bool, if◌then◌else◌, List, [], ◌∷◌, slice_index}
 use Rattle.granit_base.specs.Place.{first}
 use Rattle.granit_base.specs.PlainContent.{is_content, plain_goes_on}
-use Rattle.granit_base.specs.Classes.{is_within, is_alpha, is_blank, is_breakz, is_blank_or_breakz, is_flow}
+use Rattle.granit_base.specs.Classes.{is_within, is_alpha, is_blank, is_blank_or_breakz, is_flow}
 use Rattle.granit_base.specs.Classes.{is_printable, is_yaml_non_space, is_non_breakz}
+pub use Rattle.granit_base.specs.Classes.{is_line_char}
 use Rattle.granit_runs.specs.declared.class.Class.{Class}
 use Rattle.granit_runs.specs.declared.class.Class.TheVariants.{Alpha, NonSpace, Blank, Printable, NonBreakz}
 use Rattle.granit_runs.specs.declared.class.Run.{Run}
@@ -18,10 +19,6 @@ run_length test (c ∷ cs) = if test (c ∷ cs) then suc (run_length test cs) el
 -- a test of the first character alone
 abbrev pub starts : (ℕ → Bool) → List ℕ → Bool
 starts test text = test (first text)
-
--- a printable character but breaks and NUL
-abbrev pub is_line_char : ℕ → Bool
-is_line_char c = not (is_breakz c) && is_printable c
 
 -- whether the first character, which may be a blank, doesn't end a plain scalar as an indicator
 abbrev pub can_be_plain : Bool → List ℕ → Bool

@@ -2,7 +2,7 @@
 use Rattle.std.proofs.Common.{◌≡◌, ℕ, suc, List, ◌∷◌, ◌++◌, length, Result, Ok, Err, refl, sym, ap, ap₂, ◌∙◌}
 use Rattle.granit_base.specs.Place.{Mark, first}
 use Rattle.granit_error.specs.FaultKind.{FaultKind, UnexpectedCharacter}
-use Rattle.granit_lexemes.specs.Comment.{CommentRead, comment, is_comment_char, IsSpoiled, Spoils, ReadsComment}
+use Rattle.granit_lexemes.specs.Comment.{CommentRead, comment, is_line_char, IsSpoiled, Spoils, ReadsComment}
 use Rattle.granit_lexemes.specs.Here.{Here, mark_of}
 use Rattle.granit_lexemes.specs.Moves.{steps}
 use Rattle.granit_lexemes.specs.Outcome.{Fault, fault_at}
@@ -12,7 +12,7 @@ use Rattle.granit_scalars.proofs.Nameless.{comment_none}
 pub spoiled_once : (x cs ds : List ℕ) (c d : ℕ) → IsSpoiled x cs c → IsSpoiled x ds d → (cs ≡ ds) × (c ≡ d)
 spoiled_once x cs ds c d p q =
     let joined : cs ++ c ∷ p.behind ≡ ds ++ d ∷ q.behind = let e = sym p.spelled ∙ q.spelled in cc in
-    let s = same_run is_comment_char cs ds (c ∷ p.behind) (d ∷ q.behind) joined p.text q.text
+    let s = same_run is_line_char cs ds (c ∷ p.behind) (d ∷ q.behind) joined p.text q.text
     (no_comment_strange c p.unprintable) (no_comment_strange d q.unprintable) in
     (s.0, ap first s.1)
 

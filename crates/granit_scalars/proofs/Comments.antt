@@ -11,7 +11,7 @@ use Rattle.granit_base.specs.Classes.{is_break, is_breakz, is_printable, is_z}
 use Rattle.granit_base.specs.Place.{first}
 use Rattle.granit_error.specs.FaultKind.{UnexpectedCharacter}
 use Rattle.granit_lexemes.proofs.CharTests.{break_prints}
-use Rattle.granit_lexemes.specs.Comment.{is_comment_char, behind_comment, skipped_comment, comment, comment_of}
+use Rattle.granit_lexemes.specs.Comment.{is_line_char, behind_comment, skipped_comment, comment, comment_of}
 use Rattle.granit_lexemes.specs.Comment.{comment_read, past_comment, CommentRead, IsComment, IsSpoiled, StandsComment}
 use Rattle.granit_lexemes.specs.Comment.{ReadsComment}
 use Rattle.granit_lexemes.specs.Gap.{Each}
@@ -61,7 +61,7 @@ stops_prefix test (c ∷ cs) d ds e = stops_on test (test c) c d cs ds (prefix_l
     (stops_prefix test cs d ds) (rw (prefix_more test c cs) at e)
 
 -- a printable character that no comment takes is a break
-breaks : (c : ℕ) → is_comment_char c ≡ false → is_printable c ≡ true → is_break c ≡ true
+breaks : (c : ℕ) → is_line_char c ≡ false → is_printable c ≡ true → is_break c ≡ true
 unfolding is_printable is_break is_breakz is_z
 breaks c stops prints = grind (arith, nat_tests, stops, prints)
 
@@ -73,29 +73,29 @@ with_text h s = s >>= λ x. Ok (comment_read h x.1, x.1)
 -- a place behind the `#` and the text of a comment that begins at another
 record Parts (h after : Here) (cs : List ℕ) : Type 0 where
   spelled : h.unread.text ≡ 0x23 ∷ (cs ++ after.unread.text)
-  text : Each is_comment_char cs
+  text : Each is_line_char cs
   lands : after ≡ mid_line (steps (suc (length cs)) h)
-  stops : (d : ℕ) (ds : List ℕ) → after.unread.text ≡ d ∷ ds → is_comment_char d ≡ false
+  stops : (d : ℕ) (ds : List ℕ) → after.unread.text ≡ d ∷ ds → is_line_char d ≡ false
 
 begins : (text : List ℕ) → first text ≡ 0x23 → text ≡ 0x23 ∷ drop 1 text
 begins [] is = absurd cc
 begins (c ∷ cs) is = ap (λ (k : ℕ). k ∷ cs) is
 
-parts : (h : Here) → next_char h ≡ 0x23 → Parts h (past_comment h) (chunk is_comment_char (step h))
+parts : (h : Here) → next_char h ≡ 0x23 → Parts h (past_comment h) (chunk is_line_char (step h))
 unfolding steps
 parts h is =
     let rest = (step h).unread.text in
-    let n = prefix_len is_comment_char rest in
+    let n = prefix_len is_line_char rest in
     let behind = steps_text n (step h) in
     record {
       spelled = begins h.unread.text is ∙ ap (λ (cs : List ℕ). 0x23 ∷ cs)
           (sym (step_text h) ∙ sym (take-append-drop n rest) ∙ ap (λ (cs : List ℕ). take n rest ++ cs) (sym behind));
-      text = each_prefix is_comment_char rest;
-      lands = ap (λ (m : ℕ). mid_line (steps m (step h))) (sym (length-prefix_len is_comment_char rest));
-      stops = λ d ds e. stops_prefix is_comment_char rest d ds (sym behind ∙ e);
+      text = each_prefix is_line_char rest;
+      lands = ap (λ (m : ℕ). mid_line (steps m (step h))) (sym (length-prefix_len is_line_char rest));
+      stops = λ d ds e. stops_prefix is_line_char rest d ds (sym behind ∙ e);
     }
 
-ends_of : (text : List ℕ) → ((d : ℕ) (ds : List ℕ) → text ≡ d ∷ ds → is_comment_char d ≡ false)
+ends_of : (text : List ℕ) → ((d : ℕ) (ds : List ℕ) → text ≡ d ∷ ds → is_line_char d ≡ false)
     → (length text == 0 || is_printable (first text)) ≡ true → (text ≡ []) ⊎ (is_break (first text) ≡ true)
 ends_of [] stops held = inl refl
 ends_of (d ∷ ds) stops held = inr (breaks d (stops d ds refl) (rw (not_empty d ds) at held))
@@ -108,7 +108,7 @@ strange_of (d ∷ ds) held = (refl, rw (not_empty d ds) at held)
 abbrev behind_on : Bool → Here → Result (Unit {0} × Here) Fault
 behind_on b h = if b then Ok (tt, h) else Err (fault_at (UnexpectedCharacter (next_char h)) (mark_of h))
 
-reads_on : (h after : Here) → Parts h after (chunk is_comment_char (step h)) → (b : Bool)
+reads_on : (h after : Here) → Parts h after (chunk is_line_char (step h)) → (b : Bool)
     → (text_len after == 0 || is_printable (next_char after)) ≡ b → ReadsComment h (with_text h (behind_on b after))
 reads_on h after p true held = record {
   spelled = record {
@@ -124,11 +124,11 @@ reads_on h after p true held = record {
 reads_on h after p false held =
     let strange = strange_of after.unread.text held in
     record {
-      front = chunk is_comment_char (step h);
+      front = chunk is_line_char (step h);
       character = next_char after;
       spelled = record {
         behind = drop 1 after.unread.text;
-        spelled = p.spelled ∙ ap (λ (cs : List ℕ). 0x23 ∷ (chunk is_comment_char (step h) ++ cs)) strange.0;
+        spelled = p.spelled ∙ ap (λ (cs : List ℕ). 0x23 ∷ (chunk is_line_char (step h) ++ cs)) strange.0;
         text = p.text;
         unprintable = strange.1;
       };
@@ -161,29 +161,29 @@ same_run test (c ∷ cs) (d ∷ ds) a b e p q n m =
     let s = same_run test cs ds a b t p.1 q.1 n m in
     (ap₂ (λ k (l : List ℕ). k ∷ l) h s.0, s.1)
 
-no_comment_nul : is_comment_char 0 ≡ false
+no_comment_nul : is_line_char 0 ≡ false
 unfolding is_breakz is_break is_z
 no_comment_nul = refl
 
-no_comment_break : (c : ℕ) → is_break c ≡ true → is_comment_char c ≡ false
+no_comment_break : (c : ℕ) → is_break c ≡ true → is_line_char c ≡ false
 unfolding is_breakz
 no_comment_break c y = ap (λ b. not (b || is_z c) && is_printable c) y
 
-pub no_comment_strange : (c : ℕ) → is_printable c ≡ false → is_comment_char c ≡ false
+pub no_comment_strange : (c : ℕ) → is_printable c ≡ false → is_line_char c ≡ false
 no_comment_strange c n = ap (λ b. not (is_breakz c) && b) n ∙ and_none (not (is_breakz c))
   where
     and_none : (b : Bool) → (b && false) ≡ false
     and_none true = refl
     and_none false = refl
 
-ended : (behind : List ℕ) → (behind ≡ []) ⊎ (is_break (first behind) ≡ true) → is_comment_char (first behind) ≡ false
-ended behind (inl e) = ap (λ (t : List ℕ). is_comment_char (first t)) e ∙ no_comment_nul
+ended : (behind : List ℕ) → (behind ≡ []) ⊎ (is_break (first behind) ≡ true) → is_line_char (first behind) ≡ false
+ended behind (inl e) = ap (λ (t : List ℕ). is_line_char (first t)) e ∙ no_comment_nul
 ended behind (inr y) = no_comment_break (first behind) y
 
 pub not_both : (x cs ds : List ℕ) (c : ℕ) → IsComment x cs → IsSpoiled x ds c → ⊥
 not_both x cs ds c p q =
     let joined : cs ++ p.behind ≡ ds ++ c ∷ q.behind = let e = sym p.spelled ∙ q.spelled in cc in
-    let s = same_run is_comment_char cs ds p.behind (c ∷ q.behind) joined p.text q.text (ended p.behind p.ends)
+    let s = same_run is_line_char cs ds p.behind (c ∷ q.behind) joined p.text q.text (ended p.behind p.ends)
     (no_comment_strange c q.unprintable) in
     none p.behind s.1 p.ends
   where
@@ -195,7 +195,7 @@ not_both x cs ds c p q =
 one_comment : (x cs ds : List ℕ) → IsComment x cs → IsComment x ds → cs ≡ ds
 one_comment x cs ds p q =
     let joined : cs ++ p.behind ≡ ds ++ q.behind = let e = sym p.spelled ∙ q.spelled in cc in
-    (same_run is_comment_char cs ds p.behind q.behind joined p.text q.text (ended p.behind p.ends)
+    (same_run is_line_char cs ds p.behind q.behind joined p.text q.text (ended p.behind p.ends)
     (ended q.behind q.ends)).0
 
 is_given : (h : Here) (c : CommentRead) (after : Here) → StandsComment h c after

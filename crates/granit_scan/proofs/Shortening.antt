@@ -7,7 +7,7 @@ use Rattle.granit_lexemes.specs.Pieces.{Shortens}
 use Rattle.granit_machine.specs.Lexing.{FlaggedItem}
 use Rattle.granit_machine.specs.Reader.{LexState, behind_read, is_end, lex_turn, read}
 use Rattle.granit_machine.specs.ReaderState.{Read, ReaderState}
-use Rattle.granit_termination.proofs.LexLengths.{ReadFits, read-fits}
+use Rattle.granit_termination.proofs.LexLengths.{ReadFits, read-fits, at_read}
 use Rattle.granit_termination.proofs.ReadLengths.{reader_len}
 use Rattle.granit_scan.specs.Following.{Following}
 use Rattle.granit_scan.specs.TokenSteps.{TokenState, TokenTurn, front_token_turn, read_more_tokens, token_size}
@@ -22,15 +22,12 @@ Shorter s (Ok (Some y, t)) = token_size t < token_size s
 Shorter s (Ok (None, t)) = Unit {0}
 Shorter s (Err f) = Unit {0}
 
-abbrev before : ReaderState → LexState
-before s = record { reader = s; ended = false; fault = None }
-
 module _ (o : OptionsData) (w : Following) where
   pub read_shorter : (s : ReaderState) (q : List FlaggedItem) (r : Read) → Lexed s.laid.number (possibles s.laid) r
       → ReadFits (reader_len s) r
-      → Shorter (record { reading = before s; queue = q; following = w; pending = [] }) (behind_read r s >>= λ x. Ok (
+      → Shorter (record { reading = at_read s; queue = q; following = w; pending = [] }) (behind_read r s >>= λ x. Ok (
         Some [],
-        with_tokens_read o (record { reading = before s; queue = q; following = w; pending = [] }) x,
+        with_tokens_read o (record { reading = at_read s; queue = q; following = w; pending = [] }) x,
       ))
   read_shorter s q (Err f) ch fits = let n = ap length (pushed_nil o.emit_comments q) in omega (arith, n)
   read_shorter s q (Ok x) ch fits =

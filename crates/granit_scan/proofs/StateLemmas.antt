@@ -1,6 +1,7 @@
 -- A scanner that is known to be in a state of the machine.
 use Rattle.std.proofs.Common.{◌≡◌, ℕ, Bool, true, false, ◌||◌, List, [], ◌∷◌, ◌++◌, drop, Option, Some, None, is_some}
 use Rattle.std.proofs.Common.{Ok, Err, refl, sym, ap, subst, ◌∙◌}
+use Rattle.std.proofs.lemmas.Bool.{or_parts}
 use Rattle.std.specs.List.{slice_get}
 use Rattle.std.specs.Option.{option_map}
 use Rattle.granit_base.specs.Place.{Mark, Unread}
@@ -31,10 +32,6 @@ over_ended : (b : Bool) (f : Option Refused) → f ≡ None → (b || is_some f)
 over_ended true f none over = refl
 over_ended false None none over = over
 over_ended false (Some g) none over = absurd (cc)
-
-going_ended : (b c : Bool) → (b || c) ≡ false → b ≡ false
-going_ended true c going = going
-going_ended false c going = refl
 
 going_fault : (b : Bool) (f : Option Refused) → (b || is_some f) ≡ false → f ≡ None
 going_fault b None going = refl
@@ -153,7 +150,7 @@ module _ {I : Type 0} (unread : I → Unread → Type 0) where
         → GivesTo token_turn_view (Ok true) (ScannerIn unread (record s { items = sc }))
         (read_more_tokens o m.reading.ended m)
     reads o sc going given =
-        let ended = going_ended m.reading.ended (is_some m.reading.fault) going in (
+        let ended = (or_parts m.reading.ended (is_some m.reading.fault) going).0 in (
           with_tokens_read o m given.0,
           record { going = at.going; reading = given.2; following = at.following; pending = at.pending },
           ap (λ (b : Bool). read_more_tokens o b m) ended

@@ -1,9 +1,9 @@
 -- What a state will still give of tokens: no turn changes it.
-use Rattle.std.proofs.Common.{◌≡◌, ℕ, ◌<◌, ◌≤◌, ◌&&◌, ◌||◌, not, Bool, true, false, List, [], ◌∷◌, ◌++◌, map}
+use Rattle.std.proofs.Common.{◌≡◌, ◌<◌, ◌&&◌, ◌||◌, not, Bool, true, false, List, [], ◌∷◌}
 use Rattle.std.proofs.Common.{Option, Some, None, Result, Ok, Err, refl, sym, ap, subst, ◌∙◌, arith}
 use Rattle.std.proofs.lemmas.Bool.{and_parts}
 use Rattle.granit_error.specs.OptionsData.{OptionsData}
-use Rattle.granit_lexemes.specs.Lexeme.{Item, OfLexeme, OfComment}
+use Rattle.granit_lexemes.specs.Lexeme.{Item}
 use Rattle.granit_lexemes.specs.Outcome.{Fault, ◌>>=◌}
 use Rattle.granit_lexemes.specs.Pieces.{pieces, with_front}
 use Rattle.granit_lexemes.proofs.PieceLemmas.{pieces_done, pieces_more}
@@ -12,7 +12,7 @@ use Rattle.granit_machine.specs.Lexing.{FlaggedItem}
 use Rattle.granit_machine.specs.Machine.{front_if, is_settled, settled}
 use Rattle.granit_machine.specs.Reader.{LexState, behind_read, is_end, lex_len, lex_turn, read}
 use Rattle.granit_machine.specs.ReaderState.{Read, ReaderState}
-use Rattle.granit_termination.proofs.LexLengths.{ReadFits, lex_turn-Shortens, read-fits}
+use Rattle.granit_termination.proofs.LexLengths.{ReadFits, lex_turn-Shortens, read-fits, at_read}
 use Rattle.granit_termination.proofs.ReadLengths.{reader_len}
 use Rattle.granit_scan.specs.Following.{Following}
 use Rattle.granit_scan.specs.TokenSteps.{TokenState, TokenTurn, front_token_turn, read_more_tokens, read_tokens_unless}
@@ -20,15 +20,13 @@ use Rattle.granit_scan.specs.TokenSteps.{token_size, token_turn, token_turn_by, 
 use Rattle.granit_scan.specs.TokensTold.{TokensTold, before_tokens_told, written}
 use Rattle.granit_scan.specs.TokenViews.{PlainToken}
 use Rattle.granit_scan.proofs.Shortening.{read_shorter}
-use Rattle.granit_steps.specs.Steps.{asks_next, incoming, is_next_settled, marked_by, may_go, pushed, unflagged}
+use Rattle.granit_steps.specs.Steps.{asks_next, incoming, is_next_settled, may_go, pushed}
 use Rattle.granit_steps.specs.Told.{parsers_items}
 use Rattle.granit_steps.proofs.Chains.{LexChain, items_below, pieces_chain}
-use Rattle.granit_steps.proofs.Futures.{AllOld, Ready, coming, pushed_nil, read_out, rest_of}
-use Rattle.granit_steps.proofs.KeyReads.{IsComment, Items, Lexed, possibles, read_keys}
+use Rattle.granit_steps.proofs.Futures.{AllOld, Ready, coming, pushed_nil, read_out, rest_of, old_asked, rest_unread}
+use Rattle.granit_steps.proofs.Futures.{all_old_more, old_pushed, old_items, parsers_front}
+use Rattle.granit_steps.proofs.KeyReads.{Lexed, possibles, read_keys}
 use Rattle.granit_steps.proofs.Queues.{IsOld, asked_append, goes_for_ever, not_begun, pushed_append, pushed_front}
-
-abbrev at_read : ReaderState → LexState
-at_read s = record { reader = s; ended = false; fault = None }
 
 -- ---- what is to come
 
@@ -49,11 +47,6 @@ abbrev pub IsReady : TokenState → Type 0
 IsReady s = Ready s.reading s.queue
 
 -- ---- the front may go
-
-parsers_front : (s : Laid) (end : Option Fault) (i : FlaggedItem) (q : List FlaggedItem) → is_settled s i.item ≡ true
-    → parsers_items s end (i ∷ q) ≡ i ∷ parsers_items s end q
-parsers_front s None i q e = refl
-parsers_front s (Some f) i q e = ap (λ b. front_if b i (settled s q)) e
 
 unread_first : (o : OptionsData) (s : ReaderState) (i : FlaggedItem) (is : List FlaggedItem)
     (r : Result (List Item × LexState) Fault) (l : LexState) → LexChain s.laid r → IsOld s.laid.number i.item
@@ -89,16 +82,6 @@ front_first o s false None i is ready e =
 
 -- ---- a read
 
-rest_unread : (o : OptionsData) (s : ReaderState) (ended : Bool)
-    → rest_of o (record { reader = s; ended = ended; fault = None })
-    ≡ read_out (pieces lex_len (lex_turn o) (record { reader = s; ended = ended; fault = None }))
-    (record { reader = s; ended = ended; fault = None })
-unfolding lex_turn
-rest_unread o s false = refl
-rest_unread o s true =
-    let l : LexState = record { reader = s; ended = true; fault = None } in
-    ap (λ r. read_out r l) (sym (pieces_done lex_len (lex_turn o) l l refl))
-
 ahead_out : (o : OptionsData) (s : Laid) (q : List FlaggedItem) (front : List Item)
     (r : Result (List Item × LexState) Fault) (l m : LexState) → LexChain s r
     → ahead o q (read_out (with_front front r) l) ≡ ahead o (pushed q (incoming o.emit_comments front)) (read_out r m)
@@ -107,50 +90,6 @@ ahead_out o s q front (Ok x) l m ch =
     ap (λ items. (parsers_items x.1.reader.laid x.1.fault items, x.1.fault))
     (ap (pushed q) (asked_append o.emit_comments front x.0)
     ∙ pushed_append q (incoming o.emit_comments front) (incoming o.emit_comments x.0))
-
--- ---- what was read before
-
-abbrev OldItems : ℕ → List Item → Type 0
-OldItems n [] = Unit {0}
-OldItems n (i ∷ is) = IsOld n i × OldItems n is
-
-old_more : (n m : ℕ) (i : Item) → n ≤ m → IsOld n i → IsOld m i
-old_more n m (OfLexeme l) h p = omega (arith, h, p)
-old_more n m (OfComment c) h p = tt
-
-all_old_more : (n m : ℕ) (q : List FlaggedItem) → n ≤ m → AllOld n q → AllOld m q
-all_old_more n m [] h p = tt
-all_old_more n m (f ∷ q) h p = (old_more n m f.item h p.0, all_old_more n m q h p.1)
-
-old_last : (n : ℕ) (i j : Item) (q : List FlaggedItem) → AllOld n q → IsOld n i
-    → AllOld n (map (marked_by j) q ++ unflagged i ∷ [])
-old_last n i j [] p h = (h, tt)
-old_last n i j (f ∷ q) p h = (p.0, old_last n i j q p.1 h)
-
-old_pushed : (n : ℕ) (q : List FlaggedItem) (items : List Item) → AllOld n q → OldItems n items
-    → AllOld n (pushed q items)
-old_pushed n q [] p h = p
-old_pushed n q (i ∷ is) p h = old_pushed n (map (marked_by i) q ++ unflagged i ∷ []) is (old_last n i i q p h.0) h.1
-
-old_asked : (n : ℕ) (b : Bool) (items : List Item) → OldItems n items → OldItems n (incoming b items)
-old_asked n true items p = p
-old_asked n false [] p = tt
-old_asked n false (OfLexeme l ∷ is) p = (p.0, old_asked n false is p.1)
-old_asked n false (OfComment c ∷ is) p = old_asked n false is p.1
-
-old_comment : (n : ℕ) (is : List Item) → IsComment is → OldItems n is
-old_comment n [] p = tt
-old_comment n (OfLexeme l ∷ is) p = absurd p
-old_comment n (OfComment c ∷ []) p = (tt, tt)
-old_comment n (OfComment c ∷ i ∷ is) p = absurd p
-
-old_items : (number : ℕ) (before : List ℕ) (items : List Item) (t : Laid) → Items number before items t
-    → (number ≤ t.number) × OldItems t.number items
-old_items number before [] t p = absurd p
-old_items number before (OfComment c ∷ []) t p = let e = p.0 in (omega (arith, e), (tt, tt))
-old_items number before (OfComment c ∷ i ∷ is) t p = absurd p
-old_items number before (OfLexeme l ∷ is) t p = let e = p.0 in let f =
-    p.1 in (omega (arith, f), (omega (arith, e, f), old_comment t.number is p.3))
 
 -- ---- what a turn keeps
 

@@ -1,11 +1,11 @@
 -- What is followed of the lexemes is what the reader keeps.
 use Rattle.std.proofs.Common.{◌≡◌, ℕ, ◌-◌, ◌==◌, ◌&&◌, ◌||◌, not, Bool, true, false, List, [], ◌∷◌, ◌++◌, drop, length}
-use Rattle.std.proofs.Common.{map}
 use Rattle.std.proofs.Common.{replicate, Option, Some, None, refl, sym, ap, ap₂, ◌∙◌, subst, arith}
 use Rattle.std.specs.Prelude.{if◌then◌else◌}
 use Rattle.std.proofs.lemmas.List.{length-map}
 use Rattle.std.proofs.lemmas.Bool.Decides.{nat_tests}
 use Rattle.granit_order.proofs.BracketsPassed.{kinds_flow, kinds_in}
+use Rattle.granit_order.proofs.KeysMoved.{clash}
 use Rattle.granit_order.specs.Order.{may_follow, open_behind}
 use Rattle.granit_language.specs.OpenColumns.{EntryOf, columns_of, is_outer_kind, start_column}
 use Rattle.granit_language.specs.Seen.{terminal_kind}
@@ -17,11 +17,13 @@ use Rattle.granit_lexemes.specs.declared.layout.Bracket.TheVariants.{Square}
 use Rattle.granit_lexemes.specs.declared.layout.OpenBracket.{OpenBracket}
 use Rattle.granit_lexemes.specs.declared.layout.OpenColumn.{OpenColumn}
 use Rattle.granit_lexemes.specs.declared.layout.LastLexeme.TheVariants.{Another, Opener}
-use Rattle.granit_machine.specs.Columns.{entered, entered_columns, up_to_column}
+use Rattle.granit_machine.specs.Columns.{entered, up_to_column}
 use Rattle.granit_machine.specs.Laid.{Laid, in_square, innermost_column, is_column, is_in_flow, is_nonempty, is_opener}
 use Rattle.granit_machine.specs.Laid.{same_bracket}
+use Rattle.granit_machine.specs.Lexing.{is_nearest}
 use Rattle.granit_places.proofs.ColumnsKept.{Change, all_end, all_widened, keyed, nothing, own, passes, pop, popped}
-use Rattle.granit_places.proofs.ColumnsKept.{push, pushed}
+use Rattle.granit_places.proofs.ColumnsKept.{push}
+use Rattle.granit_places.proofs.ColumnsLaw.{cols, entered_columns}
 use Rattle.granit_scan.specs.Following.{entry_in_column, entry_start, laid_behind, laid_by_lexeme, with_last}
 use Rattle.granit_steps.specs.Tokens.{behind_ends, begins_single, ended_blocks, inserted, is_bare_colon_of}
 use Rattle.granit_steps.specs.Tokens.{is_new_column}
@@ -43,13 +45,6 @@ followed_by Colon None column ns = push column (pop column ns)
 followed_by Colon (Some k) column ns = push k.start.place.column (pop column ns)
 followed_by kind key column ns = pop column ns
 
-abbrev cols : List OpenColumn → List ℕ
-cols cs = map (λ (c : OpenColumn). c.column) cs
-
-entered_cols : (column : ℕ) (s : Laid) → columns_of (entered column s) ≡ push column (columns_of s)
-unfolding entered_columns
-entered_cols column s = ap (λ (ns : List ℕ). column ∷ ns) (pushed column s.columns)
-
 module _ (x : Lexeme) (f : Laid) (out : is_in_flow f ≡ false) where
   abbrev stands : ℕ
   stands = x.start.place.column
@@ -66,7 +61,7 @@ module _ (x : Lexeme) (f : Laid) (out : is_in_flow f ≡ false) where
   enters c s flow e =
       ap (λ (v : Bool). columns_of (if v then with_last Another s
       else entered c (with_last Another s))) (flow ∙ out)
-      ∙ entered_cols c (with_last Another s)
+      ∙ entered_columns c (with_last Another s)
       ∙ ap (push c) e
 
   abbrev left : LexemeKind → Laid
@@ -169,9 +164,6 @@ pub record Moved (s : Laid) (x : Lexeme) (after : Laid) : Type 0 where
   pub kinds : kinds_in after.brackets ≡ open_behind (terminal_kind x.kind x.key) (kinds_in s.brackets)
   pub last : is_nonempty (kinds_in after.brackets) ≡ true
       → is_opener after.last ≡ may_follow (terminal_kind x.kind x.key)
-
-clash : {A : Type 0} (v : Bool) → v ≡ true → v ≡ false → A
-clash v e f = absurd cc
 
 module _ (s : Laid) (x : Lexeme) (after : Laid) (flow : x.in_flow ≡ is_in_flow s) where
   pub moved_inside : Change s x after → is_in_flow s ≡ true → columns_of after ≡ columns_of s
@@ -298,11 +290,7 @@ module _ (column : ℕ) (s : Laid) where
   left_is StreamEnd = all_cols (is_in_flow s)
   left_is kind = right_cols (is_in_flow s)
 
-abbrev has_top : ℕ → List ℕ → Bool
-has_top column [] = false
-has_top column (n ∷ ns) = n == column
-
-top_is : (column : ℕ) (cs : List OpenColumn) → is_column (innermost_column cs) column ≡ has_top column (cols cs)
+top_is : (column : ℕ) (cs : List OpenColumn) → is_column (innermost_column cs) column ≡ is_nearest column (cols cs)
 top_is column [] = refl
 top_is column (c ∷ cs) = refl
 
@@ -347,7 +335,7 @@ module _ (s f : Laid) (a : Alike s f) where
   new_alike x =
       ap₂ (λ (v w : Bool). not v && not w) flow
       (top_is x.start.place.column (behind_ends x s).columns
-      ∙ ap (has_top x.start.place.column) (left_alike x.kind x.start.place.column)
+      ∙ ap (is_nearest x.start.place.column) (left_alike x.kind x.start.place.column)
       ∙ sym (top_is x.start.place.column (behind_ends x f).columns))
 
   pub single_alike : (b : Bool) (x : Lexeme) → begins_single b x s ≡ begins_single b x f

@@ -24,7 +24,7 @@ use Rattle.granit_machine.specs.Reader.{LexState, behind_read, is_end, lex_len, 
 use Rattle.granit_machine.specs.ReaderState.{Read, ReaderState}
 use Rattle.granit_reading.proofs.Answering.{Answers}
 use Rattle.granit_places.proofs.ColumnsKept.{Change}
-use Rattle.granit_places.proofs.ColumnsLaw.{closed_brackets, columns_change}
+use Rattle.granit_places.proofs.ColumnsLaw.{closed_brackets, columns_change, cols}
 use Rattle.granit_places.proofs.Moving.{lexeme_moved}
 use Rattle.granit_reading.proofs.ReadingLaw.{ReadsBy, read-is}
 use Rattle.granit_places.proofs.Telling.{Agrees, gap_agrees, telling}
@@ -38,9 +38,6 @@ use Rattle.granit_steps.specs.Tokens.{Noted, StateItem, item_in, lex_states, pai
 use Rattle.granit_steps.specs.Tokens.{tokens_of}
 
 -- ---- one read
-
-abbrev cols : List OpenColumn → List ℕ
-cols cs = map (λ (c : OpenColumn). c.column) cs
 
 module _ (o : OptionsData) (s : ReaderState) where
   -- the comment of a gap

@@ -1,6 +1,7 @@
 -- The oldest items of a queue.
 use Rattle.std.proofs.Common.{◌≡◌, Bool, true, false, ◌&&◌, ◌||◌, not, if◌then◌else◌, List, [], ◌∷◌, take, drop, Some}
 use Rattle.std.proofs.Common.{None, refl, sym, ap, ◌∙◌}
+use Rattle.std.proofs.lemmas.Option.{same_Some}
 use Rattle.std.specs.List.{slice_get}
 use Rattle.granit_machine.specs.Laid.{Laid}
 use Rattle.granit_machine.specs.Lexing.{FlaggedItem}
@@ -8,9 +9,6 @@ use Rattle.granit_machine.specs.Machine.{front_if, is_settled, settled}
 use Rattle.granit_machine.specs.Parser.{line_of_item, next_line}
 use Rattle.granit_scanner.specs.Scans.{front_goes, is_final, line_front, line_known}
 use Rattle.granit_steps.specs.Steps.{asks_next, is_next_settled}
-
-same_item : (f i : FlaggedItem) → Some f ≡ Some i → f ≡ i
-same_item f i e = cc
 
 module _ (over : Bool) (l : Laid) where
   pub none_goes : (q : List FlaggedItem) → None ≡ slice_get q 0 → false ≡ front_goes over l q
@@ -20,7 +18,7 @@ module _ (over : Bool) (l : Laid) where
   pub first_goes : (q : List FlaggedItem) (f : FlaggedItem) → Some f ≡ slice_get q 0
       → (over || is_final l f.item (drop 1 q)) ≡ front_goes over l q
   first_goes [] f e = absurd cc
-  first_goes (i ∷ is) f e = ap (λ (g : FlaggedItem). over || is_final l g.item is) (same_item f i e)
+  first_goes (i ∷ is) f e = ap (λ (g : FlaggedItem). over || is_final l g.item is) (same_Some f i e)
 
   pub no_line : (q : List FlaggedItem) → None ≡ slice_get q 0 → None ≡ line_front over l q
   no_line [] e = by_over over
@@ -38,9 +36,9 @@ line_by false l i is = refl
 pub line_of_first : (over : Bool) (l : Laid) (q : List FlaggedItem) (f : FlaggedItem) → Some f ≡ slice_get q 0
     → line_known over l f ≡ line_front over l q
 line_of_first over l [] f e = absurd cc
-line_of_first true l (j ∷ js) f e = ap (λ (g : FlaggedItem). line_of_item g.item g.begins_key) (same_item f j e)
+line_of_first true l (j ∷ js) f e = ap (λ (g : FlaggedItem). line_of_item g.item g.begins_key) (same_Some f j e)
 line_of_first false l (j ∷ js) f e =
-    ap (λ (g : FlaggedItem). line_known false l g) (same_item f j e) ∙ line_by (is_settled l j.item) l j (settled l js)
+    ap (λ (g : FlaggedItem). line_known false l g) (same_Some f j e) ∙ line_by (is_settled l j.item) l j (settled l js)
 
 module _ (l : Laid) where
   pub no_next : (q : List FlaggedItem) → None ≡ slice_get q 1 → false ≡ is_next_settled l (drop 1 q)
@@ -52,7 +50,7 @@ module _ (l : Laid) where
       → is_settled l f.item ≡ is_next_settled l (drop 1 q)
   next_settled [] f e = absurd cc
   next_settled (i ∷ []) f e = absurd cc
-  next_settled (i ∷ j ∷ js) f e = ap (λ (g : FlaggedItem). is_settled l g.item) (same_item f j e)
+  next_settled (i ∷ j ∷ js) f e = ap (λ (g : FlaggedItem). is_settled l g.item) (same_Some f j e)
 
   -- ---- what may go before a fault
 
@@ -80,7 +78,7 @@ module _ (l : Laid) where
       → take (if is_settled l f.item then 1 else 0) q ≡ settled l q
   first_free [] f e waits = absurd cc
   first_free (i ∷ is) f e waits =
-      ap (λ (g : FlaggedItem). take (if is_settled l g.item then 1 else 0) (i ∷ is)) (same_item f i e)
+      ap (λ (g : FlaggedItem). take (if is_settled l g.item then 1 else 0) (i ∷ is)) (same_Some f i e)
       ∙ free_by (is_settled l i.item) i is waits
 
   -- where it waits for nothing, it isn't settled
@@ -89,7 +87,7 @@ module _ (l : Laid) where
   unasked_held [] f e unasked waits = absurd cc
   unasked_held (i ∷ is) f e unasked waits =
       let same : asks_next i.item ≡ false =
-      ap (λ (g : FlaggedItem). asks_next g.item) (sym (same_item f i e)) ∙ unasked in
+      ap (λ (g : FlaggedItem). asks_next g.item) (sym (same_Some f i e)) ∙ unasked in
       held_by (is_settled l i.item) i is (asks_next i.item) same waits
     where
       held_by : (b : Bool) (i : FlaggedItem) (is : List FlaggedItem) (asks : Bool) → asks ≡ false

@@ -1,6 +1,7 @@
 -- A scanner that is known to be in a state of the machine.
 use Rattle.std.proofs.Common.{◌≡◌, Bool, true, false, ◌&&◌, ◌||◌, not, List, [], ◌∷◌, drop, Option, Some, None, is_some}
 use Rattle.std.proofs.Common.{length, refl, sym, ap, ◌∙◌}
+use Rattle.std.proofs.Math.Bool.{or-true, or-false}
 use Rattle.std.specs.Prelude.{if◌then◌else◌}
 use Rattle.std.specs.List.{slice_get}
 use Rattle.std.specs.Option.{option_map}
@@ -18,14 +19,6 @@ use Rattle.granit_reader.specs.Meets.{behind_met}
 use Rattle.granit_restart.specs.Header.{ends_in_directive, gap_in_directive, last_is_directive}
 use Rattle.granit_scanner.specs.Scans.{fails_in_header, line_asked, line_next, may_front_go, unsettled}
 use Rattle.granit_steps.specs.Steps.{asks_next, is_next_settled, is_over, line_behind, may_go}
-
-or_true : (b : Bool) → (b || true) ≡ true
-or_true true = refl
-or_true false = refl
-
-or_false : (b : Bool) → (b || false) ≡ b
-or_false true = refl
-or_false false = refl
 
 -- ---- where no read failed
 
@@ -110,7 +103,7 @@ module _ {I : Type 0} (unread : I → Unread → Type 0) (s : Scanning I) (to : 
 module _ {I : Type 0} (unread : I → Unread → Type 0) (s : Scanning I) (l : LexState) where
   over_by : (q : List FlaggedItem) (f : Option Refused) → KnownBy unread f s l q → (s.ended || is_some f) ≡ is_over l
   over_by q None k = rw (k.1, k.2) refl
-  over_by q (Some f) k = rw (k.0, k.1) (or_true s.ended)
+  over_by q (Some f) k = rw (k.0, k.1) (or-true s.ended)
 
   pub known_over : (q : List FlaggedItem) → Known unread s l q → is_done s ≡ is_over l
   known_over q k = over_by q s.fault k
@@ -118,7 +111,7 @@ module _ {I : Type 0} (unread : I → Unread → Type 0) (s : Scanning I) (l : L
   goes_by : (q : List FlaggedItem) (f : Option Refused) → KnownBy unread f s l q
       → front_goes (s.ended || is_some f) s.laid s.queue ≡ may_front_go l q
   goes_by q None k = rw (← k.3) (same_goes l s.laid s.ended q k.0.1 k.1 k.2)
-  goes_by q (Some f) k = rw (← k.2, or_true s.ended) (kept_goes l s.laid f q k.0 k.1)
+  goes_by q (Some f) k = rw (← k.2, or-true s.ended) (kept_goes l s.laid f q k.0 k.1)
 
   pub known_goes : (q : List FlaggedItem) → Known unread s l q
       → front_goes (is_done s) s.laid s.queue ≡ may_front_go l q
@@ -139,9 +132,9 @@ module _ {I : Type 0} (unread : I → Unread → Type 0) (s : Scanning I) (l : L
   line_kept : (f : Option Refused) (i : FlaggedItem) (is : List FlaggedItem) → KnownBy unread f s l (i ∷ is)
       → may_go l i is ≡ true
       → line_next (s.ended || is_some f) s.laid s.queue ≡ line_behind l is
-  line_kept None i is k goes = rw (← k.3, or_false s.ended, k.1, k.0.1) refl
+  line_kept None i is k goes = rw (← k.3, or-false s.ended, k.1, k.0.1) refl
   line_kept (Some f) i is k goes =
-      rw (← k.2, or_true s.ended, goes_kept l f i is k.0 k.1 goes, k.0) refl
+      rw (← k.2, or-true s.ended, goes_kept l f i is k.0 k.1 goes, k.0) refl
 
   rest_kept : (f : Option Refused) (i : FlaggedItem) (is : List FlaggedItem) → KnownBy unread f s l (i ∷ is)
       → may_go l i is ≡ true

@@ -1,6 +1,7 @@
 -- The first boundary among items, and the last lexeme.
 use Rattle.std.proofs.Common.{◌≡◌, ℕ, zero, suc, ◌≤◌, Bool, true, false, List, [], ◌∷◌, drop, length, Option, Some}
 use Rattle.std.proofs.Common.{None, refl, sym, ap, subst, ◌∙◌, arith}
+use Rattle.std.proofs.lemmas.Option.{same_Some}
 use Rattle.std.specs.List.{slice_get}
 use Rattle.granit_base.specs.Place.{Mark, Unread}
 use Rattle.granit_boundary.specs.Found.{FoundAs}
@@ -24,9 +25,6 @@ use Rattle.granit_steps.specs.Steps.{StepState, unflagged}
 pub read_none : (h : Here) (q : List FlaggedItem) → None ≡ slice_get q 0 → None ≡ read_boundary h q
 read_none h [] e = refl
 read_none h (i ∷ is) e = absurd (cc)
-
-same_front : (i j : FlaggedItem) → Some i ≡ Some j → i ≡ j
-same_front i j e = cc
 
 -- an item that is one is one whatever comes behind it, and one that is none is passed
 found_or : (b : Bool) (l x : Lexeme) (later : Option Lexeme) → lexeme_or b l None ≡ Some x
@@ -54,7 +52,7 @@ pub read_here : (h : Here) (q : List FlaggedItem) (i : FlaggedItem) (x : Lexeme)
 read_here h [] i x e is = absurd (cc)
 read_here h (j ∷ js) i x e is =
     sym (found_in h j.item x (read_boundary h js)
-    (ap (λ (f : FlaggedItem). boundary_of h f.item None) (sym (same_front i j e)) ∙ sym is))
+    (ap (λ (f : FlaggedItem). boundary_of h f.item None) (sym (same_Some i j e)) ∙ sym is))
 
 -- it is none
 pub read_past : (h : Here) (q : List FlaggedItem) (i : FlaggedItem) → Some i ≡ slice_get q 0
@@ -62,7 +60,7 @@ pub read_past : (h : Here) (q : List FlaggedItem) (i : FlaggedItem) → Some i �
 read_past h [] i e is = absurd (cc)
 read_past h (j ∷ js) i e is =
     sym (passed_in h j.item (read_boundary h js)
-    (ap (λ (f : FlaggedItem). boundary_of h f.item None) (sym (same_front i j e)) ∙ sym is))
+    (ap (λ (f : FlaggedItem). boundary_of h f.item None) (sym (same_Some i j e)) ∙ sym is))
 
 -- a state goes on by what was found
 pub goes_by : (h : Here) (s : StepState) (r : Option Lexeme) → read_boundary h s.queue ≡ r
@@ -86,7 +84,7 @@ pub last_on : (b : Bool) (q : List FlaggedItem) (n : ℕ) (i : FlaggedItem) → 
 last_on b [] zero i e = absurd (cc)
 last_on b [] (suc n) i e = absurd (cc)
 last_on b (j ∷ js) zero i e =
-    ap (λ (f : FlaggedItem). ends_in_directive (last_is_directive b f.item) js) (same_front i j e)
+    ap (λ (f : FlaggedItem). ends_in_directive (last_is_directive b f.item) js) (same_Some i j e)
 last_on b (j ∷ js) (suc n) i e = last_on b js n i e
 
 pub last_all : (b : Bool) (q : List FlaggedItem) (n : ℕ) → length q ≤ n → b ≡ ends_in_directive b (drop n q)

@@ -11,7 +11,7 @@ use Rattle.granit_base.specs.Written.{Written}
 use Rattle.granit_error.specs.FaultKind.{FaultKind}
 use Rattle.granit_error.specs.FaultKind as kinds
 use Rattle.granit_lexemes.specs.Basics.{fails_at, is_document_mark, past_break, only_printable, unprintable}
-use Rattle.granit_lexemes.specs.Comment.{CommentRead, is_comment_char, past_comment, behind_comment, skipped_comment}
+use Rattle.granit_lexemes.specs.Comment.{CommentRead, is_line_char, past_comment, behind_comment, skipped_comment}
 use Rattle.granit_lexemes.specs.Comment.{comment_read, comment}
 use Rattle.granit_lexemes.specs.Decoding.{letter_value, digit_count, is_high, is_low, joined}
 use Rattle.granit_lexemes.specs.Here.{Here, text_len, next_char, mark_of, first_tab, begins_behind, tab_behind, step}
@@ -233,8 +233,8 @@ module _ (shift : Shift) where
   on_tail x = (moved_tail shift x.0, moved_here shift x.1)
 
   past_comment_moved : (h : Here) → past_comment (moved_here shift h) ≡ moved_here shift (past_comment h)
-  past_comment_moved h = ap (λ (g : Here). mid_line (steps (chunk_len is_comment_char g) g)) (step_moved h)
-      ∙ ap mid_line (steps_moved (chunk_len is_comment_char (step h)) (step h))
+  past_comment_moved h = ap (λ (g : Here). mid_line (steps (chunk_len is_line_char g) g)) (step_moved h)
+      ∙ ap mid_line (steps_moved (chunk_len is_line_char (step h)) (step h))
 
   behind_comment_same : (h : Here) → Same on_here (behind_comment (moved_here shift h)) (behind_comment h)
   unfolding behind_comment
@@ -251,7 +251,7 @@ module _ (shift : Shift) where
   comment_read_moved h after = ap (λ (g : Here). record (comment_read (moved_here shift h) (moved_here shift after)) {
     text =
         Rattle.granit_lexemes.specs.Basics.as_spelled (moved_here shift h)
-        (Rattle.granit_lexemes.specs.Here.chunk is_comment_char g);
+        (Rattle.granit_lexemes.specs.Here.chunk is_line_char g);
   }) (step_moved h)
 
   pub comment_same : (h : Here) → Same on_comment (comment (moved_here shift h)) (comment h)

@@ -1,7 +1,8 @@
 -- `-`, `?` and `:` are what the code gives.
-use Rattle.std.proofs.Common.{◌≡◌, ℕ, ◌==◌, ◌&&◌, ◌||◌, Bool, true, false, not, nat_lt, if◌then◌else◌, List, []}
+use Rattle.std.proofs.Common.{◌≡◌, ℕ, ◌==◌, ◌&&◌, Bool, true, false, not, nat_lt, if◌then◌else◌, List, []}
 use Rattle.std.proofs.Common.{◌∷◌, drop, length, slice_index, Option, Some, None, Result, Ok, Err, refl, sym, ap}
 use Rattle.std.proofs.Common.{◌∙◌, arith}
+use Rattle.std.proofs.Math.Bool.{or-false}
 use Rattle.std.proofs.lemmas.Bool.Decides.{nat_tests}
 use Rattle.granit_base.specs.Classes.{is_gap}
 use Rattle.granit_base.specs.Place.{Mark}
@@ -101,15 +102,11 @@ dash_entered o ends h l m flow allowed entered = rw (flow, allowed, entered) ref
 
 -- ---- `?`
 
-or_false : (b : Bool) → (b || false) ≡ b
-or_false true = refl
-or_false false = refl
-
 skip_is : (text : List ℕ) (h : Here) → skip_gap false text h ≡ skip is_gap text h
 skip_is [] h = refl
 skip_is (c ∷ cs) h =
     ap (λ (on : Here). chosen (begins_gap false h) on h) (skip_is cs (step h))
-    ∙ ap (λ (b : Bool). chosen b (skip is_gap cs (step h)) h) (or_false (is_gap (next_char h)))
+    ∙ ap (λ (b : Bool). chosen b (skip is_gap cs (step h)) h) (or-false (is_gap (next_char h)))
 
 -- where no byte-order mark may stand in the gap
 pub gap_is : (h : Here) → past_gap false h ≡ past is_gap h

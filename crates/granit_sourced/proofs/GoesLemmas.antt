@@ -11,12 +11,14 @@ use Rattle.granit_error.specs.Refused.{Refused}
 use Rattle.granit_event.specs.declared.event.Event.{Event}
 use Rattle.granit_event.specs.Events.{plain_event}
 use Rattle.granit_lexemes.specs.Outcome.{Fails, Fault}
-use Rattle.granit_lexemes.specs.PlainEvent.{PlainEvent, EventKind, DocumentStart, DocumentEnd, StreamEnd, Comment}
+use Rattle.granit_lexemes.specs.PlainEvent.{PlainEvent, EventKind, Comment}
 use Rattle.granit_sourced.proofs.CallLemmas.{ahead_turned, next_exact}
 use Rattle.granit_sourced.specs.Giving.{EndsWith, GivesNext, next_view}
 use Rattle.granit_sourced.specs.Going.{Failed, FailsAt, GoesWithCalls, ReadsNext, SeenNext}
 use Rattle.granit_sourced.specs.Sources.{NeverRevives}
 use Rattle.granit_lexemes.proofs.PieceLemmas.{pieces_fails}
+use Rattle.granit_recovery.proofs.RecoveryLaws.{noted_steps}
+use Rattle.granit_recovery.proofs.SkipLaws.{NextAnswer, event_in, state_or}
 use Rattle.granit_restart.proofs.AheadLaws.{failing_alike, first_of, next_alike, turn_next, waits_next}
 use Rattle.granit_calls.proofs.AskLaws.{next_none}
 use Rattle.granit_restart.proofs.TurnwiseLaws.{failing_here, failing_on}
@@ -38,36 +40,19 @@ viewed (Some (Err e)) = refl
 
 -- ---- what calls note
 
-pub noted_steps : (kind : EventKind) (c : Calls) → (noted kind c).steps ≡ c.steps
-noted_steps (DocumentStart explicit version) c = refl
-noted_steps DocumentEnd c = refl
-noted_steps StreamEnd c = refl
-noted_steps kind c = refl
-
 -- a comment leaves what was noted
 pub note_keeps : (kind : EventKind) (c : Calls) → is_note kind ≡ true → noted kind c ≡ c
 note_keeps (Comment text placement) c note = refl
 note_keeps kind c note = absurd (cc)
 
-abbrev Stepped : Type 0
-Stepped = Result (Option PlainEvent × StepState) Fault
-
-abbrev event_of : Stepped → Option PlainEvent
-event_of (Ok x) = x.0
-event_of (Err f) = None
-
-abbrev state_or : StepState → Stepped → StepState
-state_or s (Ok x) = x.1
-state_or s (Err f) = s
-
-same_behind : {s u : StepState} {a b : Option PlainEvent} → ◌≡◌ {A = Stepped} (Ok (a, s)) (Ok (b, u)) → s ≡ u
+same_behind : {s u : StepState} {a b : Option PlainEvent} → ◌≡◌ {A = NextAnswer} (Ok (a, s)) (Ok (b, u)) → s ≡ u
 same_behind {s = s} x = ap (state_or s) x
 
-same_event : {x y : PlainEvent} {s u : StepState} → ◌≡◌ {A = Stepped} (Ok (Some x, s)) (Ok (Some y, u)) → x ≡ y
-same_event {x = x} {y = y} e = let f : Some x ≡ Some y = ap event_of e in cc
+same_event : {x y : PlainEvent} {s u : StepState} → ◌≡◌ {A = NextAnswer} (Ok (Some x, s)) (Ok (Some y, u)) → x ≡ y
+same_event {x = x} {y = y} e = let f : Some x ≡ Some y = ap event_in e in cc
 
-some_none : {x : PlainEvent} {s u : StepState} → ◌≡◌ {A = Stepped} (Ok (Some x, s)) (Ok (None, u)) → ⊥
-some_none {x = x} e = let f : Some x ≡ None = ap event_of e in cc
+some_none : {x : PlainEvent} {s u : StepState} → ◌≡◌ {A = NextAnswer} (Ok (Some x, s)) (Ok (None, u)) → ⊥
+some_none {x = x} e = let f : Some x ≡ None = ap event_in e in cc
 
 module _ (o : OptionsData) where
   -- behind the next event a state that was ahead is so only where no document comes
@@ -101,7 +86,7 @@ module _ (o : OptionsData) where
     pub here : next_event o c.steps ≡ Ok (Some e, next)
     pub ahead : AheadOf o next behind
 
-  behind_by : (c : Calls) (t behind : StepState) (e : PlainEvent) (r : Stepped) → next_event o c.steps ≡ r
+  behind_by : (c : Calls) (t behind : StepState) (e : PlainEvent) (r : NextAnswer) → next_event o c.steps ≡ r
       → AlikeNext o r (next_event o t) → next_event o t ≡ Ok (Some e, behind) → Behind c e behind
   behind_by c t behind e (Ok (Some x, s)) is alike there =
       let both = sym alike.2 ∙ there in
@@ -113,27 +98,27 @@ module _ (o : OptionsData) where
       }
   behind_by c t behind e (Ok (None, s)) is alike there = absurd (some_none (sym there ∙ alike))
   behind_by c t behind e (Err f) is alike there =
-      absurd (let g : ◌≡◌ {A = Stepped} _ _ = sym alike ∙ there in cc)
+      absurd (let g : ◌≡◌ {A = NextAnswer} _ _ = sym alike ∙ there in cc)
 
   pub behind_of : (c : Calls) (t behind : StepState) (e : PlainEvent) → AheadOf o c.steps t
       → next_event o t ≡ Ok (Some e, behind) → Behind c e behind
   behind_of c t behind e p there =
       behind_by c t behind e (next_event o c.steps) refl (next_alike o c.steps t p) there
 
-  fault_by : (s t : StepState) (f : Fault) (r : Stepped) → next_event o s ≡ r → AlikeNext o r (next_event o t)
+  fault_by : (s t : StepState) (f : Fault) (r : NextAnswer) → next_event o s ≡ r → AlikeNext o r (next_event o t)
       → next_event o t ≡ Err f → next_event o s ≡ Err f
-  fault_by s t f (Ok (Some x, u)) is alike there = absurd (let g : ◌≡◌ {A = Stepped} _ _ = sym alike.2 ∙ there in cc)
-  fault_by s t f (Ok (None, u)) is alike there = absurd (let g : ◌≡◌ {A = Stepped} _ _ = sym alike ∙ there in cc)
+  fault_by s t f (Ok (Some x, u)) is alike there = absurd (let g : ◌≡◌ {A = NextAnswer} _ _ = sym alike.2 ∙ there in cc)
+  fault_by s t f (Ok (None, u)) is alike there = absurd (let g : ◌≡◌ {A = NextAnswer} _ _ = sym alike ∙ there in cc)
   fault_by s t f (Err g) is alike there = is ∙ sym alike ∙ there
 
   pub fault_alike : (s t : StepState) (f : Fault) → AheadOf o s t → next_event o t ≡ Err f → next_event o s ≡ Err f
   fault_alike s t f p there = fault_by s t f (next_event o s) refl (next_alike o s t p) there
 
-  none_back : (s t u : StepState) (r : Stepped) → next_event o s ≡ r → AlikeNext o r (next_event o t)
+  none_back : (s t u : StepState) (r : NextAnswer) → next_event o s ≡ r → AlikeNext o r (next_event o t)
       → next_event o t ≡ Ok (None, u) → (v : StepState) × (next_event o s ≡ Ok (None, v))
   none_back s t u (Ok (Some x, v)) is alike there = absurd (some_none (sym alike.2 ∙ there))
   none_back s t u (Ok (None, v)) is alike there = (v, is)
-  none_back s t u (Err g) is alike there = absurd (let f : ◌≡◌ {A = Stepped} _ _ = sym alike ∙ there in cc)
+  none_back s t u (Err g) is alike there = absurd (let f : ◌≡◌ {A = NextAnswer} _ _ = sym alike ∙ there in cc)
 
   pub none_alike : (s t u : StepState) → AheadOf o s t → next_event o t ≡ Ok (None, u)
       → (v : StepState) × (next_event o s ≡ Ok (None, v))
@@ -154,7 +139,7 @@ module _ (o : OptionsData) where
   none_waits m e [] is fails = is
   none_waits m e (x ∷ es) is fails =
       let same : m ≡ with_pending (x ∷ es) m = ap (λ es. with_pending es m) is in
-      absurd (let f : ◌≡◌ {A = Stepped} _ _ = sym (waits_next o m x es) ∙ ap (next_event o) (sym same) ∙ fails in cc)
+      absurd (let f : ◌≡◌ {A = NextAnswer} _ _ = sym (waits_next o m x es) ∙ ap (next_event o) (sym same) ∙ fails in cc)
 
   -- where a call fails and its turn is known, that is the machine's
   pub fails_there : (c : Calls) (t m : StepState) (e : Fault) → AheadOf o c.steps t → TurnsTo o t m

@@ -1,6 +1,7 @@
 -- Why calls give and leave what they do where the source of an input may fail.
 use Rattle.std.proofs.Common.{◌≡◌, ◌≤◌, ℕ, Bool, true, false, ◌||◌, Option, Some, None, Result, Ok, Err, is_some, ◌⊎◌}
 use Rattle.std.proofs.Common.{inl, inr, [], refl, sym, ap, subst, ◌∙◌, le_trans}
+use Rattle.std.proofs.Math.Bool.{or-true}
 use Rattle.std.specs.Prelude.{if◌then◌else◌, IfSome}
 use Rattle.std.specs.Option.{option_map}
 use Rattle.granit_base.specs.Place.{Place, Unread}
@@ -140,10 +141,6 @@ lands_on None Here There renumbered o m on g = (g.0, on g.0 g.1, g.2)
 lands_on (Some (Ok e)) Here There renumbered o m on g = (g.0, on g.0 g.1, g.2)
 lands_on (Some (Err e)) Here There renumbered o m on g = g
 
-or_true : (b : Bool) → (b || true) ≡ true
-or_true true = refl
-or_true false = refl
-
 -- a parser that is over stays so
 pub ends_on : {I : Type 0} (r : Next) (s t : Stepping I) (error : Option Refused)
     → t.failed ≡ (s.failed || is_some error) → EndsWith r s → EndsWith r t
@@ -215,7 +212,7 @@ module _ {I : Type 0} (unread : I → Unread → Type 0) (origin : I → Origin)
     memory = revives_on r mid new (kept refl) memory;
   }
   lost_by (Some e) r is failed lost kept memory = record {
-    source = λ f met fresh going. (failed ∙ or_true mid.failed, lost);
+    source = λ f met fresh going. (failed ∙ or-true mid.failed, lost);
     memory = λ none. lost;
   }
 
@@ -231,7 +228,7 @@ module _ {I : Type 0} (unread : I → Unread → Type 0) (origin : I → Origin)
 pub ends_by : {I : Type 0} (error : Option Refused) (r : Next) (mid new : Stepping I)
     → new.failed ≡ (mid.failed || is_some error) → EndsWith r mid → EndsWith (unless_failed r error) new
 ends_by None r mid new same ends = ends_on r mid new None same ends
-ends_by (Some e) r mid new same ends = same ∙ or_true mid.failed
+ends_by (Some e) r mid new same ends = same ∙ or-true mid.failed
 
 -- calls one behind the other
 pub moves_on : {I X : Type 0} (unread : I → Unread → Type 0) (left : I → ℕ) (origin : I → Origin)

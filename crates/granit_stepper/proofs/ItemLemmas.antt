@@ -25,7 +25,7 @@ use Rattle.granit_stepper.proofs.FrontLemmas.{before_alike}
 use Rattle.granit_stepper.proofs.StateLemmas.{feed_fails, feeds, feeds_last}
 use Rattle.granit_steps.specs.Steps.{StepState}
 
-left_ok : (r : Result (Unit {0}) Refused) (p : ParserState) (given : Result ParserState Refused)
+pub left_ok : (r : Result (Unit {0}) Refused) (p : ParserState) (given : Result ParserState Refused)
     → LeavesIfRoom r p given → r ≡ Ok tt → given ≡ Ok p
 left_ok (Ok u) p given left is = left
 left_ok (Err e) p given left is = absurd (cc)

@@ -5,6 +5,7 @@ pub mod CalmLemmas
 pub mod EarlyLemmas
 pub mod EndLemmas
 pub mod FaultLemmas
+pub mod FreeLemmas
 pub mod FrontLemmas
 pub mod GatherLemmas
 pub mod HeaderLemmas

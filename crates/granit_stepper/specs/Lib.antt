@@ -3,6 +3,8 @@ pub mod Holding
 pub mod Numbers
 pub mod Offset
 pub mod Recovering
+pub mod RecoveryMemory
 pub mod Refusals
 pub mod Stepping
+pub mod TurnMemory
 pub mod Waiting

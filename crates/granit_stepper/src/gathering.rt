@@ -8,6 +8,7 @@ ghost use Rattle.granit_restart.specs.Skipping.{with_pending};
 ghost use Rattle.granit_stepper.specs.Gathering.{GathersBehind};
 ghost use Rattle.granit_stepper.specs.Numbers.{RefusesNumber};
 ghost use Rattle.granit_stepper.specs.Stepping.{Keeps, StandsIn};
+ghost use Rattle.granit_stepper.specs.TurnMemory.{AnswersFree};
 ghost use Rattle.granit_stepper.specs.Waiting.{StaysTaken};
 ghost use Rattle.granit_steps.specs.Steps.{StepState};
 
@@ -40,6 +41,7 @@ impl<'input, T: BorrowedInput<'input>> Stepper<'input, T> {
         ensures failed { IfErr result (λ r. self.new.failed ≡ true) }
         ensures lost { IfErr (answered fault.new result) (λ e. e.kind ≡ faults.NoMemory → self.new.refusal ≡ None) }
         ensures ended { StaysTaken false (answered fault.new result) self.old self.new }
+        ensures at_once { self.old.failed ≡ false → AnswersFree (answered fault.new result) self.old }
         ensures over { self.old.failed ≡ true → (result ≡ Ok false) × (self.new ≡ self.old) }
         ensures options { self.new.scanner.options ≡ self.old.scanner.options }
         ensures renumbered { self.new.renumbered ≡ self.old.renumbered }
@@ -75,6 +77,7 @@ impl<'input, T: BorrowedInput<'input>> Stepper<'input, T> {
             → GathersBehind (answered fault.new result) (StandsIn T.unread self.new) self.old.scanner.options m
             (RefusesNumber self.new.renumbered self.old.scanner.options (with_pending [] m)) }
         ensures ended { StaysTaken false (answered fault.new result) self.old self.new }
+        ensures at_once { AnswersFree (answered fault.new result) self.old }
         ensures keeps { Keeps self.old self.new }
         ensures moves { Moves T.unread T.left T.origin self.old.scanner.cursor self.new.scanner.cursor }
     {

@@ -1,12 +1,13 @@
 //! What a stepper drops, and whether another document is there.
 ghost use Rattle.std.specs.Prelude.{◌≡◌, [], true, false, None, Some, Err, slice_get, is_some, IfErr, IfOk, IfSome};
-ghost use Rattle.std.specs.Prelude.{OnOk};
+ghost use Rattle.std.specs.Prelude.{IsOk, OnOk};
 ghost use Rattle.granit_cursor.specs.Reading.{Moves};
 ghost use Rattle.granit_error.specs.FaultKind as faults;
 ghost use Rattle.granit_error.specs.Refused.{Refused, UnlessMemory};
 ghost use Rattle.granit_event.specs.Events.{event_kind};
 ghost use Rattle.granit_frames.specs.Outside.{NoneWaitsOutside};
 ghost use Rattle.granit_lexemes.specs.Outcome.{fault_at};
+ghost use Rattle.granit_refusals.specs.BeforeTurn.{refusal_outside};
 ghost use Rattle.granit_restart.specs.Header as header;
 ghost use Rattle.granit_restart.specs.Looking.{turn_ahead};
 ghost use Rattle.granit_restart.specs.Skipping as skipping;
@@ -15,6 +16,7 @@ ghost use Rattle.granit_stepper.specs.Holding.{HoldsFault, MeetsHeld, PassesHeld
 ghost use Rattle.granit_stepper.specs.Numbers.{GivesOr, RefusesNumber};
 ghost use Rattle.granit_stepper.specs.Recovering.{DropsTo, Looks, LooksOn, MetIn, RestartsIn, Skips, SkipsDocument};
 ghost use Rattle.granit_stepper.specs.Recovering.{SkipsFault, SkipsHeader, front_in, front_kind};
+ghost use Rattle.granit_stepper.specs.RecoveryMemory.{RestartsFree, SkipsFree};
 ghost use Rattle.granit_stepper.specs.Refusals.{HoldsRefusal, RefusedIn, RefusesIn, StandsAhead, StandsRefused};
 ghost use Rattle.granit_stepper.specs.Stepping as spec;
 ghost use Rattle.granit_stepper.specs.Stepping.{Keeps, StandsIn};
@@ -79,6 +81,7 @@ impl<'input, T: BorrowedInput<'input>> Stepper<'input, T> {
             → OnOk result
             (SkipsFault T.unread self.old.scanner.options self.old.scanner.cursor e self.new m) }
         ensures memory { IfErr result (λ e. e.kind ≡ faults.NoMemory) }
+        ensures free { SkipsFree T.unread self.old → IsOk result }
         ensures first { IfOk result (λ x. self.new.first ≡ None) }
         ensures options { self.new.scanner.options ≡ self.old.scanner.options }
         ensures renumbered { self.new.renumbered ≡ self.old.renumbered }
@@ -234,8 +237,9 @@ impl<'input, T: BorrowedInput<'input>> Stepper<'input, T> {
 
     /// Whether a refusal stands among the directives of a document of which nothing else was read.
     fn is_in_header(&self) -> bool
-        ensures { (m : StepState) (e : Refused) → StandsRefused T.unread self.now m e
+        ensures known { (m : StepState) (e : Refused) → StandsRefused T.unread self.now m e
             → result ≡ header.is_in_header self.now.scanner.options m e }
+        ensures inside { IfSome self.now.refusal (λ r. refusal_outside r ≡ false → result ≡ false) }
     {
         match &self.refusal {
             None => false,
@@ -260,6 +264,7 @@ impl<'input, T: BorrowedInput<'input>> Stepper<'input, T> {
             → Turned self.old.scanner.options m
             → IfOk result (λ starts. RestartsIn T.unread self.old.scanner.cursor starts self.new m) }
         ensures memory { IfErr result (λ e. e.kind ≡ faults.NoMemory) }
+        ensures free { (r : _) → self.old.refusal ≡ Some r → RestartsFree T.unread self.old.scanner r → IsOk result }
         ensures first { IfOk result (λ x. self.new.first ≡ None) }
         ensures options { self.new.scanner.options ≡ self.old.scanner.options }
         ensures renumbered { self.new.renumbered ≡ self.old.renumbered }
@@ -277,6 +282,7 @@ impl<'input, T: BorrowedInput<'input>> Stepper<'input, T> {
             → Turned self.old.scanner.options m
             → IfOk result (λ starts. RestartsIn T.unread self.old.scanner.cursor starts self.new m) }
         ensures memory { IfErr result (λ e. e.kind ≡ faults.NoMemory) }
+        ensures free { RestartsFree T.unread self.old.scanner refusal.entry → IsOk result }
         ensures first { IfOk result (λ x. self.new.first ≡ None) }
         ensures options { self.new.scanner.options ≡ self.old.scanner.options }
         ensures renumbered { self.new.renumbered ≡ self.old.renumbered }

@@ -28,8 +28,10 @@ ghost use Rattle.granit_stepper.specs.Refusals.{GivesAhead, HoldsRefusal, Refuse
 ghost use Rattle.granit_stepper.specs.Refusals.{SettlesAhead, StandsRefused, TurnsAhead};
 ghost use Rattle.granit_stepper.specs.Stepping as spec;
 ghost use Rattle.granit_stepper.specs.Stepping.{answer_in, Keeps, StandsIn, TakesFree};
+ghost use Rattle.granit_stepper.specs.TurnMemory.{AnswersFree, AnswersItemPassed, AnswersItemRefused};
+ghost use Rattle.granit_stepper.specs.TurnMemory.{AnswersPassed, AnswersRefused, TakesGoing};
 ghost use Rattle.granit_stepper.specs.Waiting.{AllTaken, GivesFirstWaiting, SameButCursor, StaysAtEnd, StaysTaken};
-ghost use Rattle.granit_stepper.specs.Waiting.{StaysWaiting};
+ghost use Rattle.granit_stepper.specs.Waiting.{StaysWaiting, waiting_events};
 ghost use Rattle.granit_steps.specs.Steps as steps;
 ghost use Rattle.granit_steps.specs.Steps.{StepState};
 
@@ -162,6 +164,8 @@ impl<'input, T: BorrowedInput<'input>> Stepper<'input, T> {
         ensures waiting { self.old.failed ≡ false
             → GivesFirstWaiting (option_map plain_event) (answer_in next.new) self.old self.new }
         ensures ended { StaysAtEnd None (answer_in next.new) self.old self.new }
+        ensures at_once { self.old.failed ≡ false → waiting_events self.old ≡ []
+            → AnswersFree (answer_in next.new) self.old }
         ensures options { self.new.scanner.options ≡ self.old.scanner.options }
         ensures renumbered { self.new.renumbered ≡ self.old.renumbered }
         ensures moves { Moves T.unread T.left T.origin self.old.scanner.cursor self.new.scanner.cursor }
@@ -282,6 +286,7 @@ impl<'input, T: BorrowedInput<'input>> Stepper<'input, T> {
         ensures waiting { self.old.first ≡ None
             → GivesFirstWaiting (option_map plain_event) (answer_in next.new) self.old self.new }
         ensures ended { StaysAtEnd None (answer_in next.new) self.old self.new }
+        ensures at_once { self.old.parser.given ≡ [] → AnswersFree (answer_in next.new) self.old }
         ensures options { self.new.scanner.options ≡ self.old.scanner.options }
         ensures renumbered { self.new.renumbered ≡ self.old.renumbered }
         ensures moves { Moves T.unread T.left T.origin self.old.scanner.cursor self.new.scanner.cursor }
@@ -354,6 +359,7 @@ impl<'input, T: BorrowedInput<'input>> Stepper<'input, T> {
         ensures ahead { SettlesAhead (answered fault.new result) self.old self.new }
         ensures waiting { StaysWaiting tt (answered fault.new result) self.old self.new }
         ensures ended { StaysTaken tt (answered fault.new result) self.old self.new }
+        ensures at_once { self.old.parser.given ≡ [] → AnswersFree (answered fault.new result) self.old }
         ensures keeps { Keeps self.old self.new }
         ensures moves { Moves T.unread T.left T.origin self.old.scanner.cursor self.new.scanner.cursor }
     {
@@ -390,6 +396,7 @@ impl<'input, T: BorrowedInput<'input>> Stepper<'input, T> {
             (answered fault.new result) self.new m }
         ensures waiting { StaysWaiting tt (answered fault.new result) self.old self.new }
         ensures ended { StaysTaken tt (answered fault.new result) self.old self.new }
+        ensures at_once { self.old.parser.given ≡ [] → AnswersFree (answered fault.new result) self.old }
         ensures keeps { Keeps self.old self.new }
         ensures moves { Moves T.unread T.left T.origin self.old.scanner.cursor self.new.scanner.cursor }
     {
@@ -414,6 +421,8 @@ impl<'input, T: BorrowedInput<'input>> Stepper<'input, T> {
         ensures ahead { TurnsAhead (answered fault.new result) self.old self.new }
         ensures waiting { StaysWaiting false (answered fault.new result) self.old self.new }
         ensures ended { StaysTaken false (answered fault.new result) self.old self.new }
+        ensures at_once { self.old.parser.given ≡ [] → AnswersRefused (answered fault.new result) self.old }
+        ensures eventless { self.old.parser.given ≡ [] → AnswersPassed (answered fault.new result) self.old self.new }
         ensures keeps { Keeps self.old self.new }
         ensures moves { Moves T.unread T.left T.origin self.old.scanner.cursor self.new.scanner.cursor }
     {
@@ -442,6 +451,8 @@ impl<'input, T: BorrowedInput<'input>> Stepper<'input, T> {
         ensures ahead { IfSome self.old.ahead
             (λ f. (answered fault.new result ≡ Err f) × (self.new ≡ record self.old { ahead = None })) }
         ensures ended { StaysTaken false (answered fault.new result) self.old self.new }
+        ensures at_once { AnswersRefused (answered fault.new result) self.old }
+        ensures eventless { AnswersPassed (answered fault.new result) self.old self.new }
         ensures keeps { Keeps self.old self.new }
         ensures moves { Moves T.unread T.left T.origin self.old.scanner.cursor self.new.scanner.cursor }
     {
@@ -495,6 +506,8 @@ impl<'input, T: BorrowedInput<'input>> Stepper<'input, T> {
             (turn_ahead self.old.scanner.options m)
             (RefusesNumber self.new.renumbered self.old.scanner.options (with_pending [] m)) }
         ensures ended { StaysTaken false (answered fault.new result) self.old self.new }
+        ensures at_once { AnswersRefused (answered fault.new result) self.old }
+        ensures eventless { AnswersPassed (answered fault.new result) self.old self.new }
         ensures keeps { Keeps self.old self.new }
         ensures moves { Moves T.unread T.left T.origin self.old.scanner.cursor self.new.scanner.cursor }
     {
@@ -509,6 +522,8 @@ impl<'input, T: BorrowedInput<'input>> Stepper<'input, T> {
         ensures known { (m : StepState) → StandsIn T.unread self.old m
             → TakesFree T.unread (option_map front_view result) self.new m }
         ensures ended { AllTaken self.old → (result ≡ None) × (self.new ≡ self.old) }
+        ensures taken { TakesGoing (option_map front_view result) self.old self.new }
+        ensures none { self.old.scanner.queue ≡ [] → (result ≡ None) × (self.new ≡ self.old) }
         ensures keeps { Keeps self.old self.new }
         ensures parser { self.new.parser ≡ self.old.parser }
         ensures cursor { self.new.scanner.cursor ≡ self.old.scanner.cursor }
@@ -541,6 +556,8 @@ impl<'input, T: BorrowedInput<'input>> Stepper<'input, T> {
             (spec.feed_item self.old.scanner.options (front_view front.entry) (with_pending [] m)))
             (λ e. (self.new.renumbered ≡ true)
             × GetsLast self.old.scanner.options (front_view front.entry) m.parser e) }
+        ensures at_once { AnswersItemRefused (answered fault.new result) (front_view front.entry) self.old }
+        ensures eventless { AnswersItemPassed (answered fault.new result) (front_view front.entry) self.old self.new }
         ensures keeps { Keeps self.old self.new }
         ensures scanner { self.new.scanner ≡ self.old.scanner }
     {
@@ -550,7 +567,8 @@ impl<'input, T: BorrowedInput<'input>> Stepper<'input, T> {
         self.take_other(alloc, fault, front)
     }
 
-    /// The same of any item, of which a mark is kept for what comes of its refusal.
+    /// The same of any item, of which a mark is kept for what comes of its refusal. Apart, since marks are few.
+    #[inline(never)]
     fn take_mark(
         &mut self,
         alloc: Global,
@@ -627,6 +645,8 @@ impl<'input, T: BorrowedInput<'input>> Stepper<'input, T> {
             (spec.feed_item self.old.scanner.options (front_view front.entry) (with_pending [] m)))
             (λ e. (self.new.renumbered ≡ true)
             × GetsLast self.old.scanner.options (front_view front.entry) m.parser e) }
+        ensures at_once { AnswersItemRefused (answered fault.new result) (front_view front.entry) self.old }
+        ensures eventless { AnswersItemPassed (answered fault.new result) (front_view front.entry) self.old self.new }
         ensures keeps { Keeps self.old self.new }
         ensures scanner { self.new.scanner ≡ self.old.scanner }
     {
@@ -702,6 +722,7 @@ impl<'input, T: BorrowedInput<'input>> Stepper<'input, T> {
         ensures refused { (m : StepState) → StandsIn T.unread self.old m → self.old.first ≡ None → m.pending ≡ []
             → may_front_go m.reading m.queue ≡ false → RefusesIn T.unread (answered fault.new result) self.new m }
         ensures ended { StaysTaken false (answered fault.new result) self.old self.new }
+        ensures at_once { (e : Fault) → self.old.scanner.fault ≡ Some e → answered fault.new result ≡ Err e }
         ensures keeps { Keeps self.old self.new }
         ensures moves { Moves T.unread T.left T.origin self.old.scanner.cursor self.new.scanner.cursor }
     {
@@ -720,6 +741,7 @@ impl<'input, T: BorrowedInput<'input>> Stepper<'input, T> {
         ensures refused { (m : StepState) → StandsIn T.unread self.old m → self.old.first ≡ None → m.pending ≡ []
             → may_front_go m.reading m.queue ≡ false → RefusesIn T.unread (answered fault.new result) self.new m }
         ensures ended { StaysTaken false (answered fault.new result) self.old self.new }
+        ensures at_once { (e : Fault) → self.old.scanner.fault ≡ Some e → answered fault.new result ≡ Err e }
         ensures keeps { Keeps self.old self.new }
         ensures cursor { self.new.scanner.cursor ≡ self.old.scanner.cursor }
     {

@@ -1,6 +1,7 @@
 use Rattle.std.proofs.Common.{◌≡◌, sym, ap, subst, ◌∙◌}
-use Rattle.granit_boundary.proofs.PassLemmas.{beginning_here, bom_is, prefix_here}
+use Rattle.granit_boundary.proofs.PassLemmas.{beginning_here, prefix_here}
 use Rattle.granit_base.specs.Classes.{is_bom}
+use Rattle.granit_lexemes.proofs.CharTests.{bom_is}
 use Rattle.granit_lexemes.specs.Here.{next_char, step}
 use Rattle.granit_lexemes.specs.Moves.{past_prefix_mark}
 use Rattle.granit_boundary.proofs.boundary.begin_line.Goals as goal

@@ -3,7 +3,8 @@ use Rattle.granit_cursor.specs.Reading.{Stands}
 use Rattle.granit_base.specs.Classes.{is_digit}
 use Rattle.granit_input.proofs.OriginLemmas.{goes_nowhere, goes_on}
 use Rattle.granit_lexemes.specs.Here.{next_char, step}
-use Rattle.granit_directives.proofs.VersionLemmas.{some_digit, digit_value, digits_begin, digits_on, digits_fit}
+use Rattle.granit_runs.proofs.RunLemmas.{digit_some}
+use Rattle.granit_directives.proofs.VersionLemmas.{digit_value, digits_begin, digits_on, digits_fit}
 use Rattle.granit_directives.proofs.VersionLemmas.{digit_hex, number_result, number_long}
 use Rattle.granit_directives.proofs.version.version_number.Goals as goal
 
@@ -43,7 +44,7 @@ returns-then-count-eq-MOST_DIGITS-clause-here g c = λ h k.
 
 pub digits-smaller : goal.digits-smaller
 digits-smaller g c =
-    let some = c.peek-digit.ensures.some (some_digit c.peek-digit.result (sym c.is_digit.ensures
+    let some = c.peek-digit.ensures.some (digit_some c.peek-digit.result (sym c.is_digit.ensures
     ∙ c.if-not-is_digit.false)) in
     let there : 0 < g.T.Input.left c.look.new.self.input = rw (← c.input.ensures) some in
     omega (arith, there, c.look.ensures.moves.0, c.step.ensures.left)

@@ -1,6 +1,7 @@
 use Rattle.std.proofs.Common.{◌≡◌, true, false, inl, inr}
+use Rattle.std.proofs.lemmas.Bool.{leb-true}
 use Rattle.granit_error.specs.OptionsView.{options_of}
-use Rattle.granit_reader.proofs.MemoryLemmas.{at_least, no_entry, no_pair}
+use Rattle.granit_reader.proofs.MemoryLemmas.{no_entry, no_pair}
 use Rattle.granit_reader.proofs.ReadLemmas.{found_alone}
 use Rattle.granit_refused.specs.Answered.{answered}
 use Rattle.granit_reader.proofs.read.lexeme_of.Goals as goal
@@ -86,7 +87,7 @@ returns-in-PlainSign-clause-here g c = λ h k.
 
 pub returns-in-OpenSign-clause-memory : goal.returns-in-OpenSign-clause-memory
 returns-in-OpenSign-clause-memory g c = λ unasked h k none.
-    c.opener.ensures.memory (at_least _ _ (rw c.in-OpenSign.is at none))
+    c.opener.ensures.memory (leb-true _ _ (rw c.in-OpenSign.is at none))
 
 pub returns-in-AliasSign-clause-memory : goal.returns-in-AliasSign-clause-memory
 returns-in-AliasSign-clause-memory g c = λ unasked h k none.

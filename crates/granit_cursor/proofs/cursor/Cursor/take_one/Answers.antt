@@ -9,5 +9,5 @@ returns-clause-here g c = λ h k.
     let looked = c.lookahead.ensures.unread h.unread stood.0 in
     let seen = c.peek.ensures.value h.unread looked in
     let above : 0x20 < next_char h = omega (arith, seen) in
-    lands_shown g.T.Input.unread _ _ h above stood
-    (c.skip.ensures.unread h.unread looked) refl refl refl
+    rw c.clear_tab.ensures
+    (lands_shown g.T.Input.unread _ _ h above stood (c.skip.ensures.unread h.unread looked) refl refl refl)

@@ -1,10 +1,10 @@
 use Rattle.std.proofs.Common.{◌≡◌, true, sym, ap, ◌∙◌}
 use Rattle.granit_error.specs.OptionsView.{options_of}
 use Rattle.granit_sorts.specs.SortViews.{machine_token}
+use Rattle.granit_machine.proofs.NoneWaits.{end_top_none}
 use Rattle.granit_machine.specs.Closing.{close, ends_top}
 use Rattle.granit_machine.specs.Frames.{ParserState}
 use Rattle.granit_frames.proofs.CloseLemmas.{closes_on, ends_none}
-use Rattle.granit_frames.proofs.WaitLemmas.{ended_waiting}
 use Rattle.granit_frames.proofs.state.ParserState.close.Goals as goal
 
 pub tops-preserved : goal.tops-preserved
@@ -16,7 +16,7 @@ tops-preserved c =
     let ends : ends_top t before before.frames ≡ true = sym c.ends_top.ensures ∙ c.tops-test.true in
     record {
       closes = ap (λ (p : ParserState). close o t p) ended ∙ closes_on o t before ends ∙ c.tops.invariant.closes;
-      outside = λ free outer. ap (λ (p : ParserState). p.waiting) ended ∙ ended_waiting o t before before.frames;
+      outside = λ free outer. ap (λ (p : ParserState). p.waiting) ended ∙ end_top_none o t before before.frames;
       kept = c.in_ok-end_top.ensures.kept ∙ c.tops.invariant.kept;
       stays = λ none. absurd (ends_none t c.args.self.now before c.tops.invariant.stays ends none);
     }

@@ -7,7 +7,9 @@ use Rattle.granit_restart.specs.Skipping.{with_pending}
 use Rattle.granit_scanner.specs.Scans.{front_view}
 use Rattle.granit_stepper.proofs.EarlyLemmas.{read_behind}
 use Rattle.granit_stepper.specs.Numbers.{GetsLast, GivesOr, RefusesNumber}
-use Rattle.granit_stepper.specs.Stepping.{StandsIn, feed_item, turn_view}
+use Rattle.granit_stepper.specs.Stepping.{StandsIn, Stepping, feed_item, turn_view}
+use Rattle.granit_stepper.specs.TurnMemory.{front_refused, read_failed}
+use Rattle.granit_stepper.proofs.FreeLemmas.{front_passed_free, front_refused_free, goes_there}
 use Rattle.granit_stepper.proofs.NumberLemmas.{gives_or, turn_or}
 use Rattle.granit_stepper.proofs.RefusalLemmas.{item_refuses_in}
 use Rattle.granit_stepper.proofs.TurnLemmas.{turn_feeds, turn_reads}
@@ -99,3 +101,32 @@ returns-in-None-clause-early g c = λ m at told.
     (read_behind o m m.reading.ended ∙ ap (behind_waiting m.pending) (sym (turn_reads o n refl free.0)))
     (gives_or turn_view r (StandsIn unread after) (read_more o m.reading.ended m)
     (RefusesNumber after.renumbered o n) same)
+
+pub returns-in-Some-clause-at_once : goal.returns-in-Some-clause-at_once
+returns-in-Some-clause-at_once g c = λ ahead e free. elim free [
+  | front_refused {x = x} goes item ↦
+      let there = goes_there c.args.self.now c.take_free.new.self x (front_view c.in-Some.front) goes
+      c.in-Some.ensures.taken in
+      front_refused_free c.args.self.now c.take_free.new.self c.take_item.new.self x (front_view c.in-Some.front)
+      (answered c.take_item.new.fault c.take_item.result) there.1 there.0 c.take_item.ensures.at_once e item
+  | read_failed none kept ↦ absurd (let clash = (c.in-Some.ensures.none none).0 in cc)
+]
+
+pub returns-in-None-clause-at_once : goal.returns-in-None-clause-at_once
+returns-in-None-clause-at_once g c = λ ahead e free. elim free [
+  | front_refused goes item ↦ absurd (let clash = (c.in-None.ensures.taken goes.goes).0 ∙ goes.front in cc)
+  | read_failed none kept ↦
+      let same = (c.in-None.ensures.none none).1 in
+      c.read_more.ensures.at_once e (ap (λ (s : Stepping g.row.T.Denot). s.scanner.fault) same ∙ kept)
+]
+
+pub returns-in-Some-clause-eventless : goal.returns-in-Some-clause-eventless
+returns-in-Some-clause-eventless g c = λ ahead p free.
+    let there = goes_there c.args.self.now c.take_free.new.self free.item (front_view c.in-Some.front) free.goes
+    c.in-Some.ensures.taken in
+    front_passed_free c.args.self.now c.take_free.new.self c.take_item.new.self free.item (front_view c.in-Some.front)
+    (answered c.take_item.new.fault c.take_item.result) there.1 there.0 c.take_item.ensures.eventless p free.passes
+
+pub returns-in-None-clause-eventless : goal.returns-in-None-clause-eventless
+returns-in-None-clause-eventless g c = λ ahead p free.
+    absurd (let clash = (c.in-None.ensures.taken free.goes.goes).0 ∙ free.goes.front in cc)

@@ -109,3 +109,11 @@ returns-in-Ok-clause-ended g c =
 
 pub returns-in-Err-clause-ended : goal.returns-in-Err-clause-ended
 returns-in-Err-clause-ended g c = λ at. absurd (let clash = (c.in-Err.ensures.ended at.over).0 in cc)
+
+pub returns-in-Ok-clause-at_once : goal.returns-in-Ok-clause-at_once
+returns-in-Ok-clause-at_once g c = λ given e free.
+    absurd (let clash = c.in-Ok.ensures.at_once given e free in cc)
+
+pub returns-in-Err-clause-at_once : goal.returns-in-Err-clause-at_once
+returns-in-Err-clause-at_once g c = λ given e free.
+    rw c.put_refusal.ensures.told (let is = c.in-Err.ensures.at_once given e free in cc)

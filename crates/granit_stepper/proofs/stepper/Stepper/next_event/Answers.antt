@@ -1,5 +1,6 @@
 use Rattle.std.proofs.Common.{◌≡◌, Some, sym, ap, ◌∙◌}
 use Rattle.granit_stepper.specs.Stepping.{Stepping}
+use Rattle.granit_stepper.proofs.FreeLemmas.{none_waits_first, none_waits_given}
 use Rattle.granit_stepper.proofs.StateLemmas.{tells_start}
 use Rattle.granit_stepper.proofs.StayLemmas.{start_first}
 use Rattle.granit_stepper.proofs.stepper.Stepper.next_event.Goals as goal
@@ -23,3 +24,11 @@ pub returns-in-Some-clause-ended : goal.returns-in-Some-clause-ended
 returns-in-Some-clause-ended g c = λ at.
     let told = ap (λ (s : Stepping g.row.T.Denot). s.first) c.self.view_is ∙ at.told in
     absurd (let clash = sym told ∙ c.in-Some.is in cc)
+
+pub returns-in-Some-clause-at_once : goal.returns-in-Some-clause-at_once
+returns-in-Some-clause-at_once g c = λ going none e free.
+    let told = ap (λ (s : Stepping g.row.T.Denot). s.first) c.self.view_is ∙ none_waits_first c.args.self.now none in
+    absurd (let clash = sym told ∙ c.in-Some.is in cc)
+
+pub returns-in-None-clause-at_once : goal.returns-in-None-clause-at_once
+returns-in-None-clause-at_once g c = λ going none. c.later_event.ensures.at_once (none_waits_given c.args.self.now none)

@@ -1,4 +1,4 @@
-use Rattle.std.proofs.Common.{◌⊎◌, Bool, [], sym, subst}
+use Rattle.std.proofs.Common.{◌⊎◌, Bool, [], Err, sym, ap, subst, ◌∙◌}
 use Rattle.granit_error.specs.Refused.{Refused}
 use Rattle.granit_lexemes.specs.Outcome.{Fails}
 use Rattle.granit_refused.specs.Answered.{why}
@@ -19,3 +19,7 @@ returns-in-Err-clause-known g c = λ m at told.
 
 pub returns-in-Err-clause-ended : goal.returns-in-Err-clause-ended
 returns-in-Err-clause-ended g c = λ at. absurd (let clash = (c.in-Err.ensures.ended at).0 in cc)
+
+pub returns-in-Err-clause-at_once : goal.returns-in-Err-clause-at_once
+returns-in-Err-clause-at_once g c = λ going e free.
+    ap Err c.fail_by.ensures.told ∙ c.in-Err.ensures.at_once e free

@@ -2,6 +2,7 @@ use Rattle.std.proofs.Common.{◌≡◌, false, sym, ap, subst, ◌∙◌}
 use Rattle.granit_error.specs.OptionsData.{OptionsData}
 use Rattle.granit_scanner.specs.Scans.{ReadsOn}
 use Rattle.granit_stepper.specs.Stepping.{Stepping, StandsIn}
+use Rattle.granit_stepper.proofs.FreeLemmas.{is_over_kept}
 use Rattle.granit_stepper.proofs.StateLemmas.{no_fault_yet, reads}
 use Rattle.granit_stepper.proofs.stepper.Stepper.read_more.Goals as goal
 use Rattle.granit_steps.specs.Steps.{is_over}
@@ -28,3 +29,15 @@ returns-clause-known g c = λ m at waits.
     let options = ap (λ (s : Stepping g.row.T.Denot). s.scanner.options) c.self.view_is in
     reads unread inside m here c.args.self.now.scanner.options after going
     (subst (λ (o : OptionsData). ReadsOn unread o after m.reading m.queue) options read)
+
+pub returns-in_err-read_on-clause-at_once : goal.returns-in_err-read_on-clause-at_once
+returns-in_err-read_on-clause-at_once g c = λ e kept.
+    let same = ap (λ (s : Stepping g.row.T.Denot). s.scanner.fault) c.self.view_is ∙ kept in
+    absurd (is_over_kept c.self.inside.scanner.ended c.self.inside.scanner.fault e same
+    (sym c.is_over.ensures.seen ∙ c.if-is_over.false))
+
+pub returns-clause-at_once : goal.returns-clause-at_once
+returns-clause-at_once g c = λ e kept.
+    let same = ap (λ (s : Stepping g.row.T.Denot). s.scanner.fault) c.self.view_is ∙ kept in
+    absurd (is_over_kept c.self.inside.scanner.ended c.self.inside.scanner.fault e same
+    (sym c.is_over.ensures.seen ∙ c.if-is_over.false))

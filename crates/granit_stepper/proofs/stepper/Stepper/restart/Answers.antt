@@ -1,7 +1,8 @@
-use Rattle.std.proofs.Common.{Option, sym, subst, ◌∙◌}
+use Rattle.std.proofs.Common.{◌≡◌, Option, sym, ap, subst, ◌∙◌}
 use Rattle.std.specs.Prelude.{IfOk}
 use Rattle.granit_restart.specs.Turned.{Turned}
 use Rattle.granit_stepper.specs.Recovering.{RestartsIn}
+use Rattle.granit_stepper.specs.RecoveryMemory.{RestartsFree}
 use Rattle.granit_stepper.specs.Refusals.{StandsRefused}
 use Rattle.granit_stepper.specs.Stepping.{Stepping}
 use Rattle.granit_refusals.specs.declared.refusal.Refusal.{Refusal}
@@ -26,3 +27,18 @@ returns-in-Some-clause-known g c = λ m e refused turned.
     (subst (λ (s : Stepping g.row.T.Denot). Turned s.scanner.options m) (sym c.self.view_is) turned) in
     subst (λ (s : Stepping g.row.T.Denot). IfOk c.restart_behind.result
     (λ starts. RestartsIn unread s.scanner.cursor starts c.restart_behind.new.self m)) c.self.view_is given
+
+pub returns-in-None-clause-free : goal.returns-in-None-clause-free
+returns-in-None-clause-free g c = λ r refused free.
+    let is = ap (λ (s : Stepping g.row.T.Denot). s.refusal) c.self.view_is ∙ refused in
+    absurd (let clash = sym is ∙ sym c.take.ensures.value ∙ c.in-None.is in cc)
+
+pub returns-in-Some-clause-free : goal.returns-in-Some-clause-free
+returns-in-Some-clause-free g c = λ r refused free.
+    let is = ap (λ (s : Stepping g.row.T.Denot). s.refusal) c.self.view_is ∙ refused in
+    let both = sym is ∙ sym c.take.ensures.value ∙ c.in-Some.is in
+    let same : r ≡ c.in-Some.refusal = cc in
+    let here = subst (λ (s : Stepping g.row.T.Denot). RestartsFree g.T.Input.unread s.scanner r) (sym c.self.view_is)
+    free in
+    c.restart_behind.ensures.free (subst (λ (x : Refusal). RestartsFree g.T.Input.unread c.self.inside.scanner x) same
+    here)

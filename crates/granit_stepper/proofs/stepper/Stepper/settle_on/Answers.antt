@@ -1,8 +1,9 @@
-use Rattle.std.proofs.Common.{◌≡◌, ◌∙◌, Bool, true, false, Ok, Err, refl, ap, subst, arith}
+use Rattle.std.proofs.Common.{◌≡◌, ◌∙◌, Bool, true, false, length, Ok, Err, refl, ap, subst, arith}
 use Rattle.std.proofs.lemmas.Result.{err_from_is_err_and}
 use Rattle.granit_refused.specs.Answered.{want_of_memory, why}
 use Rattle.granit_input.proofs.OriginLemmas.{goes_nowhere, goes_on}
 use Rattle.granit_stepper.proofs.CalmLemmas.{nothing_waits_outside, turns_turned}
+use Rattle.granit_stepper.proofs.FreeLemmas.{fails_first, fails_free, given_none, made_free, not_over_free}
 use Rattle.granit_stepper.proofs.SettleLemmas.{Turned, alike_done, alike_fails, alike_first, alike_more, keeps_both}
 use Rattle.granit_stepper.proofs.SettleLemmas.{keeps_itself}
 use Rattle.granit_stepper.proofs.StayLemmas.{Rests, rests_taken, stays_waiting, turned_none, turned_on, turns_none}
@@ -12,6 +13,7 @@ pub turns-init : goal.turns-init
 turns-init g c = record {
   alike = alike_first g.T.Input.unread c.args.self.now;
   stays = turns_none (Rests c.args.self.now) c.args.self.now;
+  fails = λ none e free. fails_first c.args.self.now e free;
   keeps = keeps_itself c.args.self.now;
   moves = (omega arith, goes_nowhere _, λ start before. before);
 }
@@ -53,6 +55,12 @@ turns-preserved g c =
           c.turns.invariant.alike turned;
       stays = turned_on c.turns._turn c.args.self.now c.turns.self c.turn.new.self c.turns.invariant.stays
           (Ok c.in_ok-turn.field-0) c.in_ok-turn.ensures.waiting c.in_ok-turn.ensures.ended (ap Ok goes);
+      fails = λ none e free.
+          let on = c.turns.invariant.fails none e free in
+          let given = given_none c.args.self.now.parser.given c.turns.self.parser.given none on.few in
+          made_free free.turns (length c.args.self.now.parser.given) c.turns._turn c.turns.self c.turn.new.self e on
+          (Ok c.in_ok-turn.field-0) (c.in_ok-turn.ensures.at_once given on.none_ahead e)
+          (c.in_ok-turn.ensures.eventless given on.none_ahead) (ap Ok goes);
       keeps = keeps_both c.args.self.now c.turns.self c.turn.new.self c.turns.invariant.keeps
           c.in_ok-turn.ensures.keeps;
       moves = (
@@ -103,3 +111,29 @@ returns-clause-ended g c = λ at.
     let most = c.turns.auto._turn-end in
     let none = c.turns.invariant.stays.none (rests_taken at) in
     absurd (omega (arith, least, most, none))
+
+pub returns-in_err-turn-clause-at_once : goal.returns-in_err-turn-clause-at_once
+returns-in_err-turn-clause-at_once g c = λ none e free.
+    let p = err_from_is_err_and c.from_residual.result c.from_residual.ensures.1 in
+    let f = why c.turn.new.fault c.in_err-turn.field-0.0 in
+    let on = c.turns.invariant.fails none e free in
+    let given = given_none c.args.self.now.parser.given c.turns.self.parser.given none on.few in
+    rw (p.1, p.2) (ap Err (fails_free free.turns (length c.args.self.now.parser.given) c.turns._turn c.turns.self
+    c.turn.new.self e on (Err f) (c.in_err-turn.ensures.at_once given on.none_ahead e)
+    (c.in_err-turn.ensures.eventless given on.none_ahead) f refl))
+
+pub returns-then-not-branch-clause-at_once : goal.returns-then-not-branch-clause-at_once
+returns-then-not-branch-clause-at_once g c = λ none e free.
+    let stops : c.in_ok-turn.field-0 ≡ false = c.if-not-branch.true in
+    let on = c.turns.invariant.fails none e free in
+    let given = given_none c.args.self.now.parser.given c.turns.self.parser.given none on.few in
+    absurd (not_over_free free.turns (length c.args.self.now.parser.given) c.turns._turn c.turns.self c.turn.new.self e
+    on (Ok c.in_ok-turn.field-0) (c.in_ok-turn.ensures.at_once given on.none_ahead e)
+    (c.in_ok-turn.ensures.eventless given on.none_ahead) (ap Ok stops))
+
+pub returns-clause-at_once : goal.returns-clause-at_once
+returns-clause-at_once g c = λ none e free.
+    let least = c.turns-test.false in
+    let most = c.turns.auto._turn-end in
+    let sum = (c.turns.invariant.fails none e free).sum in
+    absurd (omega (arith, least, most, sum, free.few))

@@ -1,7 +1,11 @@
-use Rattle.std.proofs.Common.{sym, ap, subst, ◌∙◌}
+use Rattle.std.proofs.Common.{Ok, Err, refl, sym, ap, subst, ◌∙◌}
 use Rattle.granit_error.specs.OptionsData.{OptionsData}
 use Rattle.granit_refused.specs.Answered.{answered, why}
+use Rattle.granit_feed.specs.AtOnce.{ItemAtOnce}
+use Rattle.granit_feed.specs.Eventless.{ItemTakesToGive}
 use Rattle.granit_frames.specs.Outside.{NoneWaitsOutside}
+use Rattle.granit_frames.specs.Refusing.{RefusesByFault}
+use Rattle.granit_frames.specs.Wanting.{StepWantsToGive}
 use Rattle.granit_machine.specs.Frames.{ParserState}
 use Rattle.granit_machine.specs.Leaving.{LeavesIfRoom}
 use Rattle.granit_machine.specs.Parser.{take_item}
@@ -9,7 +13,9 @@ use Rattle.granit_scanner.specs.Scans.{front_view}
 use Rattle.granit_refusals.specs.BeforeTurn.{whole}
 use Rattle.granit_stepper.specs.Refusals.{RefusedItem}
 use Rattle.granit_stepper.specs.Stepping.{Stepping, StandsIn}
+use Rattle.granit_stepper.specs.TurnMemory.{PassesItemFree, RefusesItemFree}
 use Rattle.granit_stepper.proofs.EarlyLemmas.{early_fed, early_not_fed}
+use Rattle.granit_stepper.proofs.FreeLemmas.{not_refused, refused_free, taken_there}
 use Rattle.granit_stepper.proofs.ItemLemmas.{item_fed, item_kept, item_not_fed, item_tags}
 use Rattle.granit_stepper.proofs.NumberLemmas.{tells_last}
 use Rattle.granit_stepper.proofs.StateLemmas.{nothing_waits}
@@ -154,3 +160,97 @@ returns-in-Err-clause-early g c = λ m at told.
     c.last_anchor-anchor.result
     (tells_last c.anchor_count.result x.0.item c.last_anchor-anchor.result c.last_anchor-anchor.ensures)
     e c.in-Err.ensures
+
+pub returns-in-Ok-clause-at_once : goal.returns-in-Ok-clause-at_once
+returns-in-Ok-clause-at_once g c = λ e free.
+    let inside : Stepping g.row.T.Denot = record {
+      scanner = c.self.inside.scanner;
+      parser = c.self.inside.parser;
+      first = c.self.inside.first;
+      failed = c.self.inside.failed;
+      renumbered = c.self.inside.renumbered;
+      ahead = c.self.inside.ahead;
+      refusal = c.self.inside.refusal;
+    } in
+    let x = front_view c.args.front in
+    let fed = answered c.feed-fed.new.fault c.feed-fed.result in
+    let now = record inside { parser = c.feed-fed.new.state } in
+    let here = subst (λ (s : Stepping g.row.T.Denot). RefusesItemFree s.scanner.options x s.parser e)
+    (sym c.self.view_is) free in
+    let by_fault = subst (λ (o : OptionsData). ItemAtOnce x.0.item x.0.begins_key inside.parser
+    → RefusesByFault fed (take_item o x.0.item x.0.begins_key x.1 inside.parser)) c.options-options.ensures
+    c.feed-fed.ensures.by_fault in
+    absurd (let clash = refused_free inside.scanner.options x inside.parser fed now c.last_anchor-anchor.result e here
+    by_fault (Ok tt) c.in-Ok.ensures in cc)
+
+pub returns-in-Err-clause-at_once : goal.returns-in-Err-clause-at_once
+returns-in-Err-clause-at_once g c = λ e free.
+    let inside : Stepping g.row.T.Denot = record {
+      scanner = c.self.inside.scanner;
+      parser = c.self.inside.parser;
+      first = c.self.inside.first;
+      failed = c.self.inside.failed;
+      renumbered = c.self.inside.renumbered;
+      ahead = c.self.inside.ahead;
+      refusal = c.self.inside.refusal;
+    } in
+    let x = front_view c.args.front in
+    let fed = answered c.feed-fed.new.fault c.feed-fed.result in
+    let now = record inside { parser = c.feed-fed.new.state } in
+    let here = subst (λ (s : Stepping g.row.T.Denot). RefusesItemFree s.scanner.options x s.parser e)
+    (sym c.self.view_is) free in
+    let by_fault = subst (λ (o : OptionsData). ItemAtOnce x.0.item x.0.begins_key inside.parser
+    → RefusesByFault fed (take_item o x.0.item x.0.begins_key x.1 inside.parser)) c.options-options.ensures
+    c.feed-fed.ensures.by_fault in
+    let same = refused_free inside.scanner.options x inside.parser fed now c.last_anchor-anchor.result e here by_fault
+    (Err (why c.unless_numberless.new.fault c.in-Err.refused)) c.in-Err.ensures in
+    cc
+
+pub returns-in-Ok-clause-eventless : goal.returns-in-Ok-clause-eventless
+returns-in-Ok-clause-eventless g c = λ p free.
+    let inside : Stepping g.row.T.Denot = record {
+      scanner = c.self.inside.scanner;
+      parser = c.self.inside.parser;
+      first = c.self.inside.first;
+      failed = c.self.inside.failed;
+      renumbered = c.self.inside.renumbered;
+      ahead = c.self.inside.ahead;
+      refusal = c.self.inside.refusal;
+    } in
+    let x = front_view c.args.front in
+    let fed = answered c.feed-fed.new.fault c.feed-fed.result in
+    let now = record inside { parser = c.feed-fed.new.state } in
+    let here = subst (λ (s : Stepping g.row.T.Denot). PassesItemFree s.scanner.options x s.parser p)
+    (sym c.self.view_is) free in
+    let left = subst (λ (o : OptionsData). LeavesIfRoom fed c.feed-fed.new.state
+    (take_item o x.0.item x.0.begins_key x.1 inside.parser)) c.options-options.ensures c.feed-fed.ensures.fed in
+    let there = taken_there inside.scanner.options x inside.parser fed now c.last_anchor-anchor.result p here left
+    c.in-Ok.ensures in (
+      refl,
+      ap (λ (s : Stepping g.row.T.Denot). record s { parser = c.feed-fed.new.state }) c.self.view_is
+          ∙ ap (λ (q : ParserState). record (c.args.self.now) { parser = q }) there,
+    )
+
+pub returns-in-Err-clause-eventless : goal.returns-in-Err-clause-eventless
+returns-in-Err-clause-eventless g c = λ p free.
+    let inside : Stepping g.row.T.Denot = record {
+      scanner = c.self.inside.scanner;
+      parser = c.self.inside.parser;
+      first = c.self.inside.first;
+      failed = c.self.inside.failed;
+      renumbered = c.self.inside.renumbered;
+      ahead = c.self.inside.ahead;
+      refusal = c.self.inside.refusal;
+    } in
+    let x = front_view c.args.front in
+    let fed = answered c.feed-fed.new.fault c.feed-fed.result in
+    let now = record inside { parser = c.feed-fed.new.state } in
+    let here = subst (λ (s : Stepping g.row.T.Denot). PassesItemFree s.scanner.options x s.parser p)
+    (sym c.self.view_is) free in
+    let left = subst (λ (o : OptionsData). LeavesIfRoom fed c.feed-fed.new.state
+    (take_item o x.0.item x.0.begins_key x.1 inside.parser)) c.options-options.ensures c.feed-fed.ensures.fed in
+    let wants = subst (λ (o : OptionsData). ItemTakesToGive x.0.item x.0.begins_key inside.parser
+    → StepWantsToGive fed inside.parser (take_item o x.0.item x.0.begins_key x.1 inside.parser))
+    c.options-options.ensures c.feed-fed.ensures.eventless in
+    absurd (not_refused inside.scanner.options x inside.parser fed now c.last_anchor-anchor.result p here left wants
+    (why c.unless_numberless.new.fault c.in-Err.refused) c.in-Err.ensures)

@@ -59,3 +59,17 @@ returns-clause-waiting g c =
     let none : not (length c.self.inside.parser.given == 0) ≡ false = sym c.has_event.ensures ∙ c.if-has_event.false in
     none_stays false (answered c.advance.new.fault c.advance.result) c.args.self.now c.advance.new.self
     (sym parser ∙ none_given c.self.inside.parser.given none)
+
+pub returns-then-has_event-clause-at_once : goal.returns-then-has_event-clause-at_once
+returns-then-has_event-clause-at_once g c = λ given ahead e free.
+    let some : not (length c.self.inside.parser.given == 0) ≡ true = sym c.has_event.ensures ∙ c.if-has_event.true in
+    let none = ap (λ (s : Stepping g.row.T.Denot). not (length s.parser.given == 0)) c.self.view_is
+    ∙ ap (λ (es : List PlainEvent). not (length es == 0)) given in
+    absurd (let clash = sym some ∙ none in cc)
+
+pub returns-then-has_event-clause-eventless : goal.returns-then-has_event-clause-eventless
+returns-then-has_event-clause-eventless g c = λ given ahead p free.
+    let some : not (length c.self.inside.parser.given == 0) ≡ true = sym c.has_event.ensures ∙ c.if-has_event.true in
+    let none = ap (λ (s : Stepping g.row.T.Denot). not (length s.parser.given == 0)) c.self.view_is
+    ∙ ap (λ (es : List PlainEvent). not (length es == 0)) given in
+    absurd (let clash = sym some ∙ none in cc)
