@@ -3,13 +3,13 @@ ghost use Rattle.granit_events.specs.Ran.{end_of};
 ghost use Rattle.granit.specs.Program.{Exits, RanOn};
 
 use crate::arguments::{Arguments, words};
-use granit_events::{Sink, Source, Status, run};
+use granit_events::{ByteSource, Sink, Status, run};
 use std::alloc::Global;
 use std::process::ExitCode;
 
 /// How the run on the words behind the program's name ends. Want of memory for the words is want of
 /// memory for all.
-fn run_on_words<A: Arguments, S: Source, W: Sink>(
+fn run_on_words<A: Arguments, S: ByteSource, W: Sink>(
     alloc: Global,
     arguments: &A,
     source: &mut S,
@@ -25,7 +25,7 @@ fn run_on_words<A: Arguments, S: Source, W: Sink>(
 }
 
 /// The exit code of that run.
-pub fn run_on_arguments<A: Arguments, S: Source, W: Sink>(
+pub fn run_on_arguments<A: Arguments, S: ByteSource, W: Sink>(
     alloc: Global,
     arguments: &A,
     source: &mut S,

@@ -15,22 +15,22 @@ use Rattle.granit_words.proofs.WordLemmas as words_of
 use Rattle.granit_events.specs.Inputs.{TookInput, Responds}
 use Rattle.granit_events.specs.Output.{WholeOutput, CutOutput}
 use Rattle.granit_events.specs.Wrote.{WroteFront}
-use Rattle.granit_events.specs.declared.input.Input.{Input}
-use Rattle.granit_events.specs.declared.input.Input.TheVariants as came
+use Rattle.granit_events.specs.declared.input.Request.{Request}
+use Rattle.granit_events.specs.declared.input.Request.TheVariants as came
 use Rattle.granit_events.specs.declared.status.Status.{Status}
 use Rattle.granit_events.specs.declared.status.Status.TheVariants as status
 
-pub cut_input : (input same : Input) (a b : Option (List ℕ)) (s : Status) (output : List ℕ) → input ≡ same
+pub cut_input : (input same : Request) (a b : Option (List ℕ)) (s : Status) (output : List ℕ) → input ≡ same
     → Responds same s output → WroteFront a b output → CutOutput (Responds input) a b
 cut_input input same a b s output e r w = record {
   wanted = s;
   output = output;
   called =
-      subst (λ (i : Input). Responds i s output) (sym e) r;
+      subst (λ (i : Request). Responds i s output) (sym e) r;
   wrote = w;
 }
 
-ended_of : (words : List Written) (before now : Option (List ℕ)) (input : Input) (s : Status) (output : List ℕ)
+ended_of : (words : List Written) (before now : Option (List ℕ)) (input : Request) (s : Status) (output : List ℕ)
     → TookInput words before now input → Responds input s output → Ended words before now s output
 ended_of words before now (came.WrongWord k) status.Usage output t r = (t.0, (k, t.1, r))
 ended_of words before now (came.WrongWord k) _ output t r = absurd r
@@ -41,7 +41,7 @@ ended_of words before now (came.Whole v p) status.Fault output t r = (options_of
 ended_of words before now (came.Whole v p) status.Done output t r = (options_of p, t.0, (v.items, t.1, r))
 ended_of words before now (came.Whole v p) _ output t r = absurd r
 
-pub whole_ended : (words : List Written) (before now a b : Option (List ℕ)) (input : Input) (s : Status)
+pub whole_ended : (words : List Written) (before now a b : Option (List ℕ)) (input : Request) (s : Status)
     → TookInput words before now input → WholeOutput (Responds input) a b s → WholeOutput (Ended words before now) a b s
 whole_ended words before now a b input s t w =
     record { output = w.output; called = ended_of words before now input s w.output t w.called; wrote = w.wrote }
@@ -49,8 +49,9 @@ whole_ended words before now a b input s t w =
 right_or_wrong : (words : List Written) (k : ℕ) → AreRight words → AreWrongAt words k → ⊥
 right_or_wrong words k r w = words_of.right_or_wrong (spelled words) k r w
 
-usage_on : (words : List Written) (before now : Option (List ℕ)) (k : ℕ) (input : Input) (s : Status) (output : List ℕ)
-    → AreWrongAt words k → TookInput words before now input → Responds input s output → IsOrYields status.Usage s
+usage_on : (words : List Written) (before now : Option (List ℕ)) (k : ℕ) (input : Request) (s : Status)
+    (output : List ℕ) → AreWrongAt words k → TookInput words before now input → Responds input s output
+    → IsOrYields status.Usage s
 usage_on words before now k (came.WrongWord j) status.Usage output wrong t r = refl
 usage_on words before now k (came.WrongWord j) _ output wrong t r = absurd r
 usage_on words before now k came.TooLong s output wrong t r = absurd (right_or_wrong words k t.0 wrong)
@@ -58,7 +59,7 @@ usage_on words before now k (came.Whole v p) s output wrong t r =
     absurd (right_or_wrong words k (options_of p, t.0) wrong)
 
 -- wrong words end as such
-pub usage_yields : (words : List Written) (before now a b : Option (List ℕ)) (k : ℕ) (input : Input) (s : Status)
+pub usage_yields : (words : List Written) (before now a b : Option (List ℕ)) (k : ℕ) (input : Request) (s : Status)
     → AreWrongAt words k → TookInput words before now input → WholeOutput (Responds input) a b s
     → IsOrYields status.Usage s
 usage_yields words before now a b k input s wrong t w =

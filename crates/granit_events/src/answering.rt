@@ -13,7 +13,7 @@ ghost use Rattle.granit_events.specs.Wrote.{WroteFront};
 ghost use Rattle.granit_events.specs.declared.writing.WriteEnd.TheVariants as ends;
 
 use crate::ends::Sink;
-use crate::input::Input;
+use crate::input::Request;
 use crate::saying;
 use crate::status::Status;
 use crate::writing::{WriteEnd, write_all};
@@ -132,7 +132,7 @@ fn print_usage<W: Sink>(alloc: Global, sink: &mut W, number: usize) -> Result<()
 ///
 /// `Failed`, only where the sink's count of faults rose, and `NoMemory`; a front of the output is
 /// written then.
-pub fn respond<W: Sink>(alloc: Global, input: &Input, sink: &mut W) -> Result<Status, WriteEnd>
+pub fn respond<W: Sink>(alloc: Global, input: &Request, sink: &mut W) -> Result<Status, WriteEnd>
     ensures whole { IfOk result (λ s. WholeOutput (Responds input.now) (W.written sink.old) (W.written sink.new) s) }
     ensures same { OnOk result (W.faults sink.new ≡ W.faults sink.old) }
     ensures cut { OnErr result (CutOutput (Responds input.now) (W.written sink.old) (W.written sink.new)) }
@@ -140,14 +140,14 @@ pub fn respond<W: Sink>(alloc: Global, input: &Input, sink: &mut W) -> Result<St
     ensures no_memory { result ≡ Err ends.NoMemory → W.faults sink.new ≡ W.faults sink.old }
 {
     match input {
-        Input::WrongWord(number) => {
+        Request::WrongWord(number) => {
             print_usage(alloc, sink, *number)?;
             Ok(Status::Usage)
         }
-        Input::TooLong => {
+        Request::TooLong => {
             write_all(sink, b"input too long\n")?;
             Ok(Status::TooLong)
         }
-        Input::Whole(bytes, options) => answer(alloc, *options, bytes, sink),
+        Request::Whole(bytes, options) => answer(alloc, *options, bytes, sink),
     }
 }

@@ -9,7 +9,7 @@ ghost use Rattle.granit_base.specs.Counts.{last_count, Rose};
 pub struct Failed;
 
 /// Bytes to be read.
-pub trait Source {
+pub trait ByteSource {
     /// The bytes that are left, where the source tells them.
     ghost left: { Self → Option (List ℕ) };
 

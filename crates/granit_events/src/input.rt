@@ -5,7 +5,7 @@ ghost use Rattle.granit_events.specs.Ended.{AreRight, AreWrongAt};
 ghost use Rattle.granit_events.specs.Inputs.{TookInput};
 ghost use Rattle.granit_events.specs.declared.input.InputEnd.TheVariants as ends;
 
-use crate::ends::Source;
+use crate::ends::ByteSource;
 use crate::reading::{ReadEnd, read_all};
 use granit_base::TextList;
 use granit_error::Options;
@@ -14,7 +14,7 @@ use std::alloc::Global;
 
 /// What came in.
 #[derive(Debug, Drop)]
-pub enum Input {
+pub enum Request {
     /// The number of the first wrong or missing word; nothing was read.
     WrongWord(usize),
     /// One byte too many.
@@ -31,11 +31,11 @@ pub enum InputEnd {
 }
 
 /// What words and a source give.
-pub fn take_input<S: Source>(
+pub fn take_input<S: ByteSource>(
     alloc: Global,
     words: &TextList,
     source: &mut S,
-) -> Result<Input, InputEnd>
+) -> Result<Request, InputEnd>
     ensures took { IfOk result (λ input. TookInput words.now (S.left source.old) (S.left source.new) input) }
     ensures same { OnOk result (S.faults source.new ≡ S.faults source.old) }
     ensures failed { result ≡ Err ends.Failed → Rose (S.faults source.old) (S.faults source.new) }
@@ -45,11 +45,11 @@ pub fn take_input<S: Source>(
 {
     let options = match read_words(words) {
         Ok(options) => options,
-        Err(number) => return Ok(Input::WrongWord(number)),
+        Err(number) => return Ok(Request::WrongWord(number)),
     };
     match read_all(alloc, source) {
-        Ok(bytes) => Ok(Input::Whole(bytes, options)),
-        Err(ReadEnd::TooLong) => Ok(Input::TooLong),
+        Ok(bytes) => Ok(Request::Whole(bytes, options)),
+        Err(ReadEnd::TooLong) => Ok(Request::TooLong),
         Err(ReadEnd::Failed) => Err(InputEnd::Failed),
         Err(ReadEnd::NoMemory) => Err(InputEnd::NoMemory),
     }

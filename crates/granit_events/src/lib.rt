@@ -16,7 +16,7 @@ mod status;
 mod testing;
 mod writing;
 
-pub use ends::{Failed, Sink, Source};
+pub use ends::{ByteSource, Failed, Sink};
 pub use granit_lines::push_line;
 pub use memory::{MemorySink, MemorySource};
 pub use outside::{ReadSource, WriteSink};

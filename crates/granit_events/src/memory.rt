@@ -7,7 +7,7 @@ ghost use Rattle.granit_base.specs.Counts.{next_count, Rose};
 ghost use Rattle.granit_events.specs.Counts.{held_count};
 ghost use Rattle.granit_events.specs.Memory.{call_fails};
 
-use crate::ends::{Failed, Sink, Source};
+use crate::ends::{ByteSource, Failed, Sink};
 use crate::filling::fill;
 use granit_base::NoMemory;
 use std::alloc::Global;
@@ -61,7 +61,7 @@ impl MemorySource {
     }
 }
 
-impl Source for MemorySource {
+impl ByteSource for MemorySource {
     ghost use Rattle.std.specs.Prelude.{Some};
     ghost use Rattle.std.proofs.Common.{arith};
     ghost use Rattle.granit_events.specs.Counts.{held_count};

@@ -4,7 +4,7 @@ ghost use Rattle.std.specs.Io.{ReadsAtMost, WritesAtMost};
 ghost use Rattle.std.specs.Io.KnownBytes.{ReadConsumes, WriteAppends};
 ghost use Rattle.granit_base.specs.Counts.{next_count, Rose};
 
-use crate::ends::{Failed, Sink, Source};
+use crate::ends::{ByteSource, Failed, Sink};
 use std::io::{Read, Write};
 
 /// A reader of std. It tells its bytes where the reader does. A call that fails adds one to the
@@ -26,7 +26,7 @@ impl<R> ReadSource<R> {
     }
 }
 
-impl<R: Read> Source for ReadSource<R> {
+impl<R: Read> ByteSource for ReadSource<R> {
     ghost use Rattle.std.proofs.Common.{arith};
 
     ghost left = { λ s. R.remaining s.reader };

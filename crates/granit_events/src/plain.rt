@@ -1,7 +1,7 @@
 //! A source and a sink that never fail.
 ghost use Rattle.std.specs.Prelude.{◌≡◌, ◌≤◌, drop, vec_len, Some};
 
-use crate::ends::{Failed, Sink, Source};
+use crate::ends::{ByteSource, Failed, Sink};
 use crate::filling::fill;
 
 /// Bytes in memory.
@@ -15,13 +15,13 @@ pub struct PlainSource {
 impl PlainSource {
     /// All these bytes are left.
     pub fn new(bytes: Vec<u8>) -> PlainSource
-        ensures { ⟦<PlainSource as Source>⟧.left result ≡ Some bytes.items }
+        ensures { ⟦<PlainSource as ByteSource>⟧.left result ≡ Some bytes.items }
     {
         PlainSource { bytes, position: 0 }
     }
 }
 
-impl Source for PlainSource {
+impl ByteSource for PlainSource {
     ghost use Rattle.std.specs.Prelude.{drop, Some};
     ghost use Rattle.std.proofs.Common.{arith};
 

@@ -4,7 +4,7 @@ ghost use Rattle.granit_base.specs.Counts.{Rose};
 ghost use Rattle.granit_events.specs.Came.{CameWhole, CameTooMany};
 ghost use Rattle.granit_events.specs.declared.reading.ReadEnd.TheVariants as ends;
 
-use crate::ends::{Failed, Source};
+use crate::ends::{ByteSource, Failed};
 use std::alloc::{AllocError, Global};
 
 /// Why an input was not read to its end.
@@ -38,7 +38,7 @@ pub const MOST: usize = 67_108_864;
 const PIECE: usize = 2_048;
 
 /// All that a source has left. Where that is more than `MOST` bytes, `MOST + 1` are taken.
-pub fn read_all<S: Source>(alloc: Global, source: &mut S) -> Result<Vec<u8>, ReadEnd>
+pub fn read_all<S: ByteSource>(alloc: Global, source: &mut S) -> Result<Vec<u8>, ReadEnd>
     ensures whole { IfOk result (λ v. CameWhole (S.left source.old) (S.left source.new) v.items) }
     ensures same { OnOk result (S.faults source.new ≡ S.faults source.old) }
     ensures failed { result ≡ Err ends.Failed → Rose (S.faults source.old) (S.faults source.new) }

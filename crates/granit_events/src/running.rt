@@ -11,7 +11,7 @@ ghost use Rattle.granit_events.specs.declared.status.Status.{Status};
 ghost use Rattle.granit_events.specs.declared.status.Status.TheVariants as status;
 
 use crate::answering::respond;
-use crate::ends::{Sink, Source};
+use crate::ends::{ByteSource, Sink};
 use crate::input::{InputEnd, take_input};
 use crate::plain::{PlainSink, PlainSource};
 use crate::status::Status;
@@ -23,7 +23,7 @@ use std::alloc::Global;
 
 /// What `run` does on the words of `events` and on wrong ones. Its contract speaks of the plain machine; that of `run`
 /// also of the text.
-pub(crate) fn run_once<S: Source, W: Sink>(
+pub(crate) fn run_once<S: ByteSource, W: Sink>(
     alloc: Global,
     words: &TextList,
     source: &mut S,
@@ -76,7 +76,7 @@ pub(crate) fn run_once<S: Source, W: Sink>(
 /// Where it is `selftest`, `Tested`: each status fixes the output, and the line has the numbers of the definitions
 /// (`ended`); which status the words call for (`usage`, `right`); no status comes but Done, Usage, WriteFault and
 /// NoMemory (`may`), and the source is left as it was (`unread`).
-pub fn run<S: Source, W: Sink>(
+pub fn run<S: ByteSource, W: Sink>(
     alloc: Global,
     words: &TextList,
     source: &mut S,
@@ -106,13 +106,13 @@ pub fn run_plain(
     ensures never_read_fault { result ≡ status.ReadFault → ⊥ }
     ensures never_write_fault { result ≡ status.WriteFault → ⊥ }
     ensures ran { (BeginSelftest words.now → ⊥)
-        → Ran words.now (end_of ⟦<PlainSource as Source>⟧.left ⟦<PlainSource as Source>⟧.faults source.old)
-        (end_of ⟦<PlainSource as Source>⟧.left ⟦<PlainSource as Source>⟧.faults source.new)
+        → Ran words.now (end_of ⟦<PlainSource as ByteSource>⟧.left ⟦<PlainSource as ByteSource>⟧.faults source.old)
+        (end_of ⟦<PlainSource as ByteSource>⟧.left ⟦<PlainSource as ByteSource>⟧.faults source.new)
         (end_of ⟦<PlainSink as Sink>⟧.written ⟦<PlainSink as Sink>⟧.faults sink.old)
         (end_of ⟦<PlainSink as Sink>⟧.written ⟦<PlainSink as Sink>⟧.faults sink.new) result }
     ensures tested { BeginSelftest words.now
-        → Tested words.now (end_of ⟦<PlainSource as Source>⟧.left ⟦<PlainSource as Source>⟧.faults source.old)
-        (end_of ⟦<PlainSource as Source>⟧.left ⟦<PlainSource as Source>⟧.faults source.new)
+        → Tested words.now (end_of ⟦<PlainSource as ByteSource>⟧.left ⟦<PlainSource as ByteSource>⟧.faults source.old)
+        (end_of ⟦<PlainSource as ByteSource>⟧.left ⟦<PlainSource as ByteSource>⟧.faults source.new)
         (end_of ⟦<PlainSink as Sink>⟧.written ⟦<PlainSink as Sink>⟧.faults sink.old)
         (end_of ⟦<PlainSink as Sink>⟧.written ⟦<PlainSink as Sink>⟧.faults sink.new) result }
     ensures unread { (k : ℕ) → AreWrongAt words.now k → source.new ≡ source.old }

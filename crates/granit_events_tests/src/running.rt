@@ -2,8 +2,8 @@
 use crate::agree::agree;
 use granit_base::{NoMemory, OwnedText, TextList};
 use granit_events::{
-    MemorySink, MemorySource, PlainSink, PlainSource, ReadSource, Source, Status, WriteSink, run,
-    run_plain,
+    ByteSource, MemorySink, MemorySource, PlainSink, PlainSource, ReadSource, Status, WriteSink,
+    run, run_plain,
 };
 use std::alloc::Global;
 
@@ -74,7 +74,7 @@ fn front_of(output: &str, written: &[u8]) -> Option<usize> {
 
 /// How the run of a case ends between a source and a sink, and how many bytes of an output it writes; none where it
 /// writes others.
-fn ended<S: Source>(
+fn ended<S: ByteSource>(
     alloc: Global,
     case: Case,
     source: &mut S,
@@ -86,7 +86,7 @@ fn ended<S: Source>(
 }
 
 /// The same over a source.
-fn outcome_over<S: Source>(
+fn outcome_over<S: ByteSource>(
     alloc: Global,
     case: Case,
     source: &mut S,

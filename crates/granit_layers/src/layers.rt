@@ -18,7 +18,7 @@ use granit_base::{NoMemory, OwnedText, Span, TextList};
 use granit_error::ScanError;
 use granit_event::Event;
 use granit_receivers::kept;
-use granit_replay::Refused;
+use granit_replay::RefusedParser;
 use std::alloc::Global;
 use std::collections::VecDeque;
 use std::iter::FusedIterator;
@@ -73,7 +73,7 @@ impl<'input, S: StackedParser<'input>> Layers<'input, S> {
     /// # Errors
     ///
     /// For want of memory alone, and above another parser alone: the parser and its name come back.
-    pub fn push(&mut self, parser: S, name: OwnedText) -> Result<(), Refused<S>>
+    pub fn push(&mut self, parser: S, name: OwnedText) -> Result<(), RefusedParser<S>>
         ensures pushed { OnOk result (Pushes S.offset_of S.sets_offset S.offset_over self.old.layers parser name
             self.new.layers) }
         ensures same { OnOk result (self.new ≡ record self.old { layers = self.new.layers }) }
@@ -95,7 +95,7 @@ impl<'input, S: StackedParser<'input>> Layers<'input, S> {
                     }
                     Err(refused) => {
                         self.top = Some(refused.value);
-                        Err(Refused { parser, name })
+                        Err(RefusedParser { parser, name })
                     }
                 }
             }

@@ -8,7 +8,7 @@ use crate::layer::StackedParser;
 use crate::layers::Layers;
 use granit_base::{OwnedText, Span};
 use granit_event::Event;
-use granit_replay::Refused;
+use granit_replay::RefusedParser;
 
 impl<'input, A, B, C, D> Layers<'input, AnyKind<A, B, C, D>>
 where
@@ -22,7 +22,7 @@ where
     /// # Errors
     ///
     /// For want of memory alone, and above another parser alone: the parser and its name come back.
-    pub fn push_first(&mut self, parser: A, name: OwnedText) -> Result<(), Refused<A>>
+    pub fn push_first(&mut self, parser: A, name: OwnedText) -> Result<(), RefusedParser<A>>
         ensures pushed { OnOk result (Pushes ⟦<AnyKind<A, B, C, D> as StackedParser<'input>>⟧.offset_of
             ⟦<AnyKind<A, B, C, D> as StackedParser<'input>>⟧.sets_offset
             ⟦<AnyKind<A, B, C, D> as StackedParser<'input>>⟧.offset_over self.old.layers (First parser) name
@@ -33,8 +33,8 @@ where
     {
         match self.push(AnyKind::First(parser), name) {
             Ok(()) => Ok(()),
-            Err(Refused { parser, name }) => match parser {
-                AnyKind::First(parser) => Err(Refused { parser, name }),
+            Err(RefusedParser { parser, name }) => match parser {
+                AnyKind::First(parser) => Err(RefusedParser { parser, name }),
                 _ => unreachable!(),
             },
         }
@@ -45,7 +45,7 @@ where
     /// # Errors
     ///
     /// For want of memory alone, and above another parser alone: the parser and its name come back.
-    pub fn push_second(&mut self, parser: B, name: OwnedText) -> Result<(), Refused<B>>
+    pub fn push_second(&mut self, parser: B, name: OwnedText) -> Result<(), RefusedParser<B>>
         ensures pushed { OnOk result (Pushes ⟦<AnyKind<A, B, C, D> as StackedParser<'input>>⟧.offset_of
             ⟦<AnyKind<A, B, C, D> as StackedParser<'input>>⟧.sets_offset
             ⟦<AnyKind<A, B, C, D> as StackedParser<'input>>⟧.offset_over self.old.layers (Second parser) name
@@ -56,8 +56,8 @@ where
     {
         match self.push(AnyKind::Second(parser), name) {
             Ok(()) => Ok(()),
-            Err(Refused { parser, name }) => match parser {
-                AnyKind::Second(parser) => Err(Refused { parser, name }),
+            Err(RefusedParser { parser, name }) => match parser {
+                AnyKind::Second(parser) => Err(RefusedParser { parser, name }),
                 _ => unreachable!(),
             },
         }
@@ -68,7 +68,7 @@ where
     /// # Errors
     ///
     /// For want of memory alone, and above another parser alone: the parser and its name come back.
-    pub fn push_third(&mut self, parser: C, name: OwnedText) -> Result<(), Refused<C>>
+    pub fn push_third(&mut self, parser: C, name: OwnedText) -> Result<(), RefusedParser<C>>
         ensures pushed { OnOk result (Pushes ⟦<AnyKind<A, B, C, D> as StackedParser<'input>>⟧.offset_of
             ⟦<AnyKind<A, B, C, D> as StackedParser<'input>>⟧.sets_offset
             ⟦<AnyKind<A, B, C, D> as StackedParser<'input>>⟧.offset_over self.old.layers (Third parser) name
@@ -79,8 +79,8 @@ where
     {
         match self.push(AnyKind::Third(parser), name) {
             Ok(()) => Ok(()),
-            Err(Refused { parser, name }) => match parser {
-                AnyKind::Third(parser) => Err(Refused { parser, name }),
+            Err(RefusedParser { parser, name }) => match parser {
+                AnyKind::Third(parser) => Err(RefusedParser { parser, name }),
                 _ => unreachable!(),
             },
         }
@@ -91,7 +91,7 @@ where
     /// # Errors
     ///
     /// For want of memory alone, and above another parser alone: the parser and its name come back.
-    pub fn push_fourth(&mut self, parser: D, name: OwnedText) -> Result<(), Refused<D>>
+    pub fn push_fourth(&mut self, parser: D, name: OwnedText) -> Result<(), RefusedParser<D>>
         ensures pushed { OnOk result (Pushes ⟦<AnyKind<A, B, C, D> as StackedParser<'input>>⟧.offset_of
             ⟦<AnyKind<A, B, C, D> as StackedParser<'input>>⟧.sets_offset
             ⟦<AnyKind<A, B, C, D> as StackedParser<'input>>⟧.offset_over self.old.layers (Fourth parser) name
@@ -102,8 +102,8 @@ where
     {
         match self.push(AnyKind::Fourth(parser), name) {
             Ok(()) => Ok(()),
-            Err(Refused { parser, name }) => match parser {
-                AnyKind::Fourth(parser) => Err(Refused { parser, name }),
+            Err(RefusedParser { parser, name }) => match parser {
+                AnyKind::Fourth(parser) => Err(RefusedParser { parser, name }),
                 _ => unreachable!(),
             },
         }
@@ -119,7 +119,7 @@ where
         parser: C,
         name: OwnedText,
         current: (Event<'input>, Span),
-    ) -> Result<(), Refused<(C, (Event<'input>, Span))>>
+    ) -> Result<(), RefusedParser<(C, (Event<'input>, Span))>>
         ensures pushed { OnOk result (Pushes ⟦<AnyKind<A, B, C, D> as StackedParser<'input>>⟧.offset_of
             ⟦<AnyKind<A, B, C, D> as StackedParser<'input>>⟧.sets_offset
             ⟦<AnyKind<A, B, C, D> as StackedParser<'input>>⟧.offset_over self.old.layers (Third parser) name
@@ -135,7 +135,7 @@ where
                 self.give_first(current);
                 Ok(())
             }
-            Err(Refused { parser, name }) => Err(Refused {
+            Err(RefusedParser { parser, name }) => Err(RefusedParser {
                 parser: (parser, current),
                 name,
             }),

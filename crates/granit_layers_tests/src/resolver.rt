@@ -5,7 +5,7 @@ use granit_base::{Marker, OwnedText};
 use granit_buffered::BufferedInput;
 use granit_error::{ErrorKind, ScanError};
 use granit_input::Input;
-use granit_replay::{FnResolver, Included, NoChars, NoResolver, Refused, Resolver};
+use granit_replay::{FnResolver, Included, NoChars, NoResolver, RefusedParser, Resolver};
 use std::alloc::Global;
 
 /// Whether what is included are these characters.
@@ -108,7 +108,7 @@ fn no_characters_come(rt: HostRuntime) {
 
 /// The parser that comes back, and whether its name does.
 fn told_of_refused(name: OwnedText) -> (u8, bool) {
-    let refused = Refused { parser: 7u8, name };
+    let refused = RefusedParser { parser: 7u8, name };
     (refused.parser, refused.name.as_str() == "root")
 }
 

@@ -257,7 +257,8 @@ impl<'input, T: BorrowedInput<'input>> Parser<'input, T> {
     /// source stands in the place of all that was read up to it (`source`), and behind it recovery is refused (`lost`).
     /// Where recovery met a refusal and `keep_tags` or `set_anchor_offset` was called before it is given, what waits
     /// comes before it, and it counts as given then (`held`).
-    /// A refusal that is given is kept (`given`), and marked where it is want of memory (`starved`).
+    /// A refusal that is given is kept (`given`), and marked where it is want of memory (`starved`). An event that
+    /// waits, the end, and a fault behind lexemes of which nothing is given or kept want no memory (`at_once`).
     ///
     /// # Errors
     ///

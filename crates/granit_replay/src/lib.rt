@@ -6,6 +6,6 @@ mod parts;
 mod replay;
 mod resolver;
 
-pub use parts::{NoChars, Refused, no_chars_give_nothing};
+pub use parts::{NoChars, RefusedParser, no_chars_give_nothing};
 pub use replay::ReplayParser;
 pub use resolver::{FnResolver, Included, NoResolver, Resolver};

@@ -44,7 +44,7 @@ pub fn no_chars_give_nothing()
 
 /// A parser that no memory was found for, and the name that it was to have.
 #[derive(Debug, Drop)]
-pub struct Refused<P> {
+pub struct RefusedParser<P> {
     /// The parser, unchanged.
     pub parser: P,
     /// Its name.

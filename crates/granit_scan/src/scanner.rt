@@ -33,7 +33,7 @@ use granit_error::{ErrorKind, Options, ScanError};
 use granit_input::{BorrowedInput, Input};
 use granit_items::Rooms;
 use granit_queue::Queued;
-use granit_scanner::{Front, Scanner as ItemScanner};
+use granit_scanner::{Front, ItemScanner};
 use std::alloc::Global;
 use std::iter::FusedIterator;
 use std::marker::Model;

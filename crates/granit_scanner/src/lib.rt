@@ -5,4 +5,4 @@ mod last;
 mod restart;
 mod scanner;
 
-pub use scanner::{Front, Scanner};
+pub use scanner::{Front, ItemScanner};

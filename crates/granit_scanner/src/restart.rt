@@ -14,7 +14,7 @@ ghost use Rattle.granit_scanner.specs.Scans.{Known};
 ghost use Rattle.granit_steps.specs.Steps.{StepState};
 
 use crate::last::{is_behind, last_behind};
-use crate::scanner::{MOST_LEXEMES, Scanner};
+use crate::scanner::{ItemScanner, MOST_LEXEMES};
 use granit_base::{NoMemory, is_break};
 use granit_boundary::{Boundary, pass_to_boundary};
 use granit_content::{Start, write_lexeme};
@@ -23,7 +23,7 @@ use granit_input::{BorrowedInput, Input};
 use granit_items::{Found, Item, Lexeme, LexemeKind, Rooms};
 use granit_queue::Queue;
 
-impl<'input, T: BorrowedInput<'input>> Scanner<'input, T> {
+impl<'input, T: BorrowedInput<'input>> ItemScanner<'input, T> {
     /// Goes on at the next document boundary: the first one among a lexeme that was taken and the items that wait, or
     /// the next one in the text. All else that waits goes, and nothing is open any more. Whether a `---` comes next.
     ///

@@ -49,7 +49,7 @@ pub struct Front<'input> {
 
 /// An input that is read into items, which wait until nothing behind them can change what they are.
 #[derive(Drop)]
-pub struct Scanner<'input, T: Input> {
+pub struct ItemScanner<'input, T: Input> {
     pub(crate) cursor: Cursor<T>,
     pub(crate) layouts: Layouts,
     pub(crate) options: Options,
@@ -63,7 +63,7 @@ pub struct Scanner<'input, T: Input> {
     pub(crate) held: Met,
 }
 
-impl<'input, T: Input> Model for Scanner<'input, T> {
+impl<'input, T: Input> Model for ItemScanner<'input, T> {
     ghost use Rattle.granit_error.specs.OptionsView.{options_of};
     ghost use Rattle.granit_scanner.specs.Scans.{Scanning};
 
@@ -81,15 +81,15 @@ impl<'input, T: Input> Model for Scanner<'input, T> {
     } };
 }
 
-impl<'input, T: BorrowedInput<'input>> Scanner<'input, T> {
+impl<'input, T: BorrowedInput<'input>> ItemScanner<'input, T> {
     /// Before an input, of which nothing was read.
-    pub fn new(alloc: Global, input: T, options: Options) -> Scanner<'input, T>
+    pub fn new(alloc: Global, input: T, options: Options) -> ItemScanner<'input, T>
         ensures start { (h : Here) → T.unread input h.unread → h.place ≡ first_place → h.begins_line ≡ true
             → h.tab ≡ None → Known T.unread result (lex_start h) [] }
         ensures options { result.options ≡ options_of options }
         ensures input { result.cursor.input ≡ input }
     {
-        Scanner {
+        ItemScanner {
             cursor: Cursor::new(input),
             layouts: Layouts::new(alloc),
             options,
@@ -265,7 +265,7 @@ fn pass_all<T: Input>(cursor: &mut Cursor<T>)
     }
 }
 
-impl<'input, T: Input> Scanner<'input, T> {
+impl<'input, T: Input> ItemScanner<'input, T> {
     fn take_oldest(&mut self) -> Option<Front<'input>>
         ensures item { option_map spec.front_view result ≡ option_map (λ i. (
           i,

@@ -13,7 +13,7 @@ use Rattle.granit_sourced.proofs.SourceLemmas.{source_tells}
 use Rattle.granit_layers.specs.Turning.{Next}
 use Rattle.granit_sourced.specs.Giving.{next_view}
 use Rattle.granit_sourced.specs.Sources.{IfUnseen, IsSourceError, TellsSource, unless_failed}
-use Rattle.granit_sourced.specs.Waiting.{GivesAtOnce, TakesFirst, TakesFirstOf}
+use Rattle.granit_sourced.specs.Waiting.{FailsAtOnce, GivesAtOnce, TakesFirst, TakesFirstOf}
 use Rattle.granit_stepper.specs.Stepping.{Stepping, refused_kind}
 use Rattle.granit_stepper.specs.Waiting.{GivesOldestOf, GivesFirstWaiting, IsAtEnd, SameButCursor, waiting_events}
 use Rattle.granit_stepper.specs.Waiting.{with_waiting}
@@ -55,7 +55,8 @@ module _ {I : Type 0} (origin : I → Origin) (old mid new : Stepping I)
     (goes : Goes (origin old.scanner.cursor.input) (origin mid.scanner.cursor.input))
     (gave : Gave (origin mid.scanner.cursor.input) (origin new.scanner.cursor.input)) (r : Next)
     (waiting : old.failed ≡ false → TakesFirst r old mid)
-    (ended : IsAtEnd old → (r ≡ None) × (mid ≡ old)) where
+    (ended : IsAtEnd old → (r ≡ None) × (mid ≡ old))
+    (free : old.failed ≡ false → waiting_events old ≡ [] → FailsAtOnce r old) where
   pub at_once_by : (error : Option Refused)
       → option_map refused_kind error ≡ error_given (origin mid.scanner.cursor.input)
       → IfSome error (λ e. (e.mark.place ≡ new.scanner.cursor.place) × (e.sources ≡ []))
@@ -65,12 +66,13 @@ module _ {I : Type 0} (origin : I → Origin) (old mid new : Stepping I)
     waiting = λ going. inl (takes_in (waiting_events old) r old mid new (rest refl) (waiting going));
     ended = λ going at. let none = ended at in
         inl (none.0, same_on old mid new (same_cursor old mid none.1) (rest refl));
+    free = λ going none. inl (free going none);
   }
   at_once_by (Some e) is placed offset rest =
       let told : IsSourceError (origin new.scanner.cursor.input) new.scanner.cursor.place e =
       source_tells (origin old.scanner.cursor.input) (origin mid.scanner.cursor.input)
       (origin new.scanner.cursor.input) goes gave e new.scanner.cursor.place is placed.0 placed.1 offset in
-      record { waiting = λ going. inr told; ended = λ going at. inr told }
+      record { waiting = λ going. inr told; ended = λ going at. inr told; free = λ going none. inr told }
 
 -- ---- behind the end
 

@@ -1,5 +1,5 @@
 //! The next event of an input, or the error of its source in the place of it.
-ghost use Rattle.std.specs.Prelude.{◌≡◌, ◌⊎◌, true, false, None};
+ghost use Rattle.std.specs.Prelude.{◌≡◌, ◌⊎◌, [], true, false, None};
 ghost use Rattle.granit_cursor.specs.Reading.{GoesOnward, Moves};
 ghost use Rattle.granit_error.specs.Refused.{Refused};
 ghost use Rattle.granit_recovery.specs.Streams.{ReachedByCalls};
@@ -8,10 +8,10 @@ ghost use Rattle.granit_sourced.specs.Giving.{EndsWith, GivesNext, StepsBy};
 ghost use Rattle.granit_sourced.specs.Going.{GoesWithCalls, ReadsHeld, ReadsNext};
 ghost use Rattle.granit_sourced.specs.Sources.{MovesUnless, NeverRecovers, NeverRevives, TellsError, TellsSource};
 ghost use Rattle.granit_sourced.specs.Sources.{unless_failed};
-ghost use Rattle.granit_sourced.specs.Waiting.{GivesAtOnce, TakesFirst};
+ghost use Rattle.granit_sourced.specs.Waiting.{FailsAtOnce, GivesAtOnce, TakesFirst};
 ghost use Rattle.granit_stepper.specs.Holding.{HoldsFault};
 ghost use Rattle.granit_stepper.specs.Stepping.{StandsIn};
-ghost use Rattle.granit_stepper.specs.Waiting.{IsAtEnd};
+ghost use Rattle.granit_stepper.specs.Waiting.{IsAtEnd, waiting_events};
 ghost use Rattle.granit_steps.specs.Steps.{StepState};
 
 use granit_base::Span;
@@ -72,6 +72,7 @@ pub fn step_event<'input, T: BorrowedInput<'input>>(
         → ReadsHeld T.unread next.new stepper.new m f }
     ensures waiting { stepper.old.failed ≡ false → TakesFirst next.new stepper.old stepper.new }
     ensures ended { IsAtEnd stepper.old → (next.new ≡ None) × (stepper.new ≡ stepper.old) }
+    ensures free { stepper.old.failed ≡ false → waiting_events stepper.old ≡ [] → FailsAtOnce next.new stepper.old }
     ensures lost { NeverRevives next.new stepper.new }
     ensures refused { EndsWith next.new stepper.new }
     ensures over { stepper.old.failed ≡ true → (next.new ≡ None) × (stepper.new ≡ stepper.old) }

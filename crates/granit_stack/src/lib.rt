@@ -6,6 +6,6 @@ mod pushes;
 mod stack;
 
 pub use granit_replay::{
-    FnResolver, Included, NoChars, NoResolver, Refused, ReplayParser, Resolver,
+    FnResolver, Included, NoChars, NoResolver, RefusedParser, ReplayParser, Resolver,
 };
 pub use stack::{IncludeStack, ParserStack, StrStack};

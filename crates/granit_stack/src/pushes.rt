@@ -7,7 +7,7 @@ use crate::stack::IncludeStack;
 use granit_base::{OwnedText, Span};
 use granit_event::Event;
 use granit_layers::{AnyKind, StackedParser};
-use granit_replay::{Refused, ReplayParser};
+use granit_replay::{RefusedParser, ReplayParser};
 
 impl<'input, A, B, C, D, R> IncludeStack<'input, AnyKind<A, B, C, D>, R>
 where
@@ -22,7 +22,7 @@ where
     /// # Errors
     ///
     /// For want of memory alone, and above another parser alone: the parser and its name come back.
-    pub fn push_str_parser(&mut self, parser: A, name: OwnedText) -> Result<(), Refused<A>>
+    pub fn push_str_parser(&mut self, parser: A, name: OwnedText) -> Result<(), RefusedParser<A>>
         ensures pushed { OnOk result (Pushes
             ⟦<AnyKind<A, B, C, D> as StackedParser<'input>>⟧.offset_of
             ⟦<AnyKind<A, B, C, D> as StackedParser<'input>>⟧.sets_offset
@@ -41,7 +41,7 @@ where
     /// # Errors
     ///
     /// For want of memory alone, and above another parser alone: the parser and its name come back.
-    pub fn push_iter_parser(&mut self, parser: B, name: OwnedText) -> Result<(), Refused<B>>
+    pub fn push_iter_parser(&mut self, parser: B, name: OwnedText) -> Result<(), RefusedParser<B>>
         ensures pushed { OnOk result (Pushes
             ⟦<AnyKind<A, B, C, D> as StackedParser<'input>>⟧.offset_of
             ⟦<AnyKind<A, B, C, D> as StackedParser<'input>>⟧.sets_offset
@@ -60,7 +60,7 @@ where
     /// # Errors
     ///
     /// For want of memory alone, and above another parser alone: the parser and its name come back.
-    pub fn push_custom_parser(&mut self, parser: C, name: OwnedText) -> Result<(), Refused<C>>
+    pub fn push_custom_parser(&mut self, parser: C, name: OwnedText) -> Result<(), RefusedParser<C>>
         ensures pushed { OnOk result (Pushes
             ⟦<AnyKind<A, B, C, D> as StackedParser<'input>>⟧.offset_of
             ⟦<AnyKind<A, B, C, D> as StackedParser<'input>>⟧.sets_offset
@@ -85,7 +85,7 @@ where
         parser: C,
         name: OwnedText,
         current: (Event<'input>, Span),
-    ) -> Result<(), Refused<(C, (Event<'input>, Span))>>
+    ) -> Result<(), RefusedParser<(C, (Event<'input>, Span))>>
         ensures pushed { OnOk result (Pushes
             ⟦<AnyKind<A, B, C, D> as StackedParser<'input>>⟧.offset_of
             ⟦<AnyKind<A, B, C, D> as StackedParser<'input>>⟧.sets_offset
@@ -118,7 +118,7 @@ where
         &mut self,
         parser: ReplayParser<'input>,
         name: OwnedText,
-    ) -> Result<(), Refused<ReplayParser<'input>>>
+    ) -> Result<(), RefusedParser<ReplayParser<'input>>>
         ensures pushed { OnOk result (Pushes
             ⟦<AnyKind<A, B, C, ReplayParser<'input>> as StackedParser<'input>>⟧.offset_of
             ⟦<AnyKind<A, B, C, ReplayParser<'input>> as StackedParser<'input>>⟧.sets_offset

@@ -45,14 +45,14 @@ use granit_items::{Item, LexemeKind, Rooms};
 use granit_queue::Queued;
 use granit_refusals::{Before, Refusal, is_mark, wants_memory};
 use granit_refused::{Refused, error_of, refuse};
-use granit_scanner::{Front, Scanner};
+use granit_scanner::{Front, ItemScanner};
 use std::alloc::Global;
 use std::marker::Model;
 
 /// An input that is read into events, one for each call.
 #[derive(Drop)]
 pub struct Stepper<'input, T: Input> {
-    pub(crate) scanner: Scanner<'input, T>,
+    pub(crate) scanner: ItemScanner<'input, T>,
     pub(crate) parser: ParserState<'input>,
     // Room for lexemes, which those left that the parser took.
     pub(crate) rooms: Rooms<'input>,
@@ -93,7 +93,7 @@ impl<'input, T: BorrowedInput<'input>> Stepper<'input, T> {
         ensures input { result.scanner.cursor.input ≡ input }
         ensures renumbered { result.renumbered ≡ false }
     {
-        let scanner = Scanner::new(alloc, input, options);
+        let scanner = ItemScanner::new(alloc, input, options);
         let start = scanner.mark();
         Stepper {
             scanner,

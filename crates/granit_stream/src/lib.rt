@@ -4,4 +4,4 @@
 
 mod stream;
 
-pub use stream::{Source, Stream, Tail};
+pub use stream::{Stream, Tail};

@@ -4,7 +4,7 @@
 ghost use Rattle.std.specs.Prelude.{◌≡◌, ℕ, ◌+◌, ◌-◌, ◌<◌, ◌≤◌, ◌^◌, List, [], ◌∷◌, ◌++◌, length, None, false, IfOk};
 ghost use Rattle.std.specs.Prelude.{MatchOption, true};
 ghost use Rattle.std.specs.Char.{IsScalar};
-ghost use Rattle.std.specs.Iterator.{IsFinite, size};
+ghost use Rattle.std.specs.Iterator.{size};
 ghost use Rattle.circular_buffer.specs.Buffer.{buffer};
 ghost use Rattle.granit_base.specs.Place.{Unread, first};
 ghost use Rattle.granit_stream.specs.Stream.{StreamHolds};
@@ -13,34 +13,19 @@ ghost use Rattle.granit_buffered.specs.Feeds.{GivesOnly, StillGives, still_left}
 
 use circular_buffer::HeapCircularBuffer;
 use granit_base::{NoMemory, is_breakz};
+use granit_buffered::Source;
 use granit_error::ErrorKind;
 use granit_input::{BorrowedInput, Input};
 use std::alloc::Global;
-use std::str::Chars;
-
-/// An iterator that may always be asked, and ends.
-pub trait Source: Iterator<Item = char> {
-    ghost asked: { (s : Self) → Self.can_next s };
-
-    ghost ends: { (s : Self) → IsFinite (Self.remaining s) };
-}
-
-impl<'a> Source for Chars<'a> {
-    ghost use Rattle.std.proofs.Common.{rules};
-
-    ghost asked = { Prim.search rules };
-
-    ghost ends = { Prim.search rules };
-}
 
 /// An iterator that is not asked again once it has ended.
 #[derive(Drop)]
-pub struct Tail<T: Source> {
+pub struct Tail<T: Source<Item = char>> {
     iterator: T,
     done: bool,
 }
 
-impl<T: Source> Tail<T> {
+impl<T: Source<Item = char>> Tail<T> {
     #[tactic(auto, using(crate::proofs::StreamLemmas::rest_some, crate::proofs::StreamLemmas::rest_none))]
     fn next_char(&mut self) -> Option<char>
         ensures told { (xs : List ℕ) → StillGives T.next_gives T.remaining self.old.done self.old.iterator xs
@@ -67,7 +52,7 @@ impl<T: Source> Tail<T> {
 /// Characters of an iterator. A source that breaks off has an error, which is met at the end. Where there is a text to
 /// lend, offsets are told, and nothing is known of what is left: that text may end in front of a place that is told.
 #[derive(Drop)]
-pub struct Stream<T: Source, L: Input> {
+pub struct Stream<T: Source<Item = char>, L: Input> {
     held: HeapCircularBuffer<char>,
     tail: Tail<T>,
     breaks_off: bool,
@@ -90,7 +75,7 @@ fn hold(held: &mut HeapCircularBuffer<char>, c: char)
     held.push_back(c);
 }
 
-impl<T: Source, L: Input> Stream<T, L> {
+impl<T: Source<Item = char>, L: Input> Stream<T, L> {
     /// All of them.
     pub fn new(alloc: Global, iterator: T, breaks_off: bool) -> Result<Stream<T, L>, NoMemory>
         requires { size (T.remaining iterator) < 2 ^ 63 }
@@ -144,7 +129,7 @@ impl<T: Source, L: Input> Stream<T, L> {
     }
 }
 
-impl<T: Source, L: Input> Input for Stream<T, L> {
+impl<T: Source<Item = char>, L: Input> Input for Stream<T, L> {
     ghost use Rattle.std.specs.Prelude.{false};
     ghost use Rattle.granit_input.specs.Origin.{Goes};
     ghost use Rattle.granit_stream.specs.Stream.{of_stream};
@@ -259,7 +244,7 @@ impl<T: Source, L: Input> Input for Stream<T, L> {
     }
 }
 
-impl<'a, T: Source, L: BorrowedInput<'a>> BorrowedInput<'a> for Stream<T, L> {
+impl<'a, T: Source<Item = char>, L: BorrowedInput<'a>> BorrowedInput<'a> for Stream<T, L> {
     fn slice_borrowed(&self, start: usize, end: usize) -> Option<&'a str> {
         match &self.lends {
             Some(text) => text.slice_borrowed(start, end),

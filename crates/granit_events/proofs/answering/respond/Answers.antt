@@ -1,5 +1,5 @@
 use Rattle.std.proofs.Common.{refl, rules}
-use Rattle.granit_events.specs.declared.input.Input.TheVariants as came
+use Rattle.granit_events.specs.declared.input.Request.TheVariants as came
 use Rattle.granit_events.specs.declared.status.Status.TheVariants as status
 use Rattle.granit_events.proofs.RunLemmas.{cut_input}
 use Rattle.granit_events.proofs.answering.respond.Goals as goal

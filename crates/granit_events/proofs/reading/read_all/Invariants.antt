@@ -5,9 +5,9 @@ use Rattle.granit_events.proofs.reading.read_all.Given as goal
 
 abbrev pub invariant-chunks : goal.invariant-chunks
 invariant-chunks g l = record {
-  came : Consumes (g.S.Source.left l.fn.source) (g.S.Source.left l.source) l.bytes.items;
+  came : Consumes (g.S.ByteSource.left l.fn.source) (g.S.ByteSource.left l.source) l.bytes.items;
   fits : vec_len l.bytes ≤ most_bytes + 1;
-  same : g.S.Source.faults l.source ≡ g.S.Source.faults l.fn.source;
+  same : g.S.ByteSource.faults l.source ≡ g.S.ByteSource.faults l.fn.source;
 }
 
 abbrev pub decreases-chunks : goal.decreases-chunks

@@ -8,8 +8,8 @@ use Rattle.granit_events.proofs.running.run.Goals as goal
 pub returns-clause-ran : goal.returns-clause-ran
 returns-clause-ran g c =
     let words = c.args.words.now in
-    let left = g.S.Source.left c.args.source.now in
-    let now = g.S.Source.left c.run_once.new.source in
+    let left = g.S.ByteSource.left c.args.source.now in
+    let now = g.S.ByteSource.left c.run_once.new.source in
     let written = g.W.Sink.written c.args.sink.now in
     let after = g.W.Sink.written c.run_once.new.sink in
     let once = c.run_once.ensures in
@@ -21,7 +21,7 @@ returns-clause-ran g c =
       source_count = once.source_count;
       sink_count = once.sink_count;
       none_left = once.none_left;
-      unread = λ k wrong. ap (end_of g.S.Source.left g.S.Source.faults) (once.unread k wrong);
+      unread = λ k wrong. ap (end_of g.S.ByteSource.left g.S.ByteSource.faults) (once.unread k wrong);
       usage = once.usage;
       exactly = once.exactly;
       read = reading_where words left now written after c.run_once.result once.ended;

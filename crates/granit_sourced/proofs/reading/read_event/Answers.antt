@@ -116,6 +116,8 @@ returns-then-has_failed-clause-at_once g c = record {
       absurd (let no : true ≡ false = sym c.if-has_failed.true ∙ c.has_failed.ensures ∙ going in cc);
   ended = λ going at.
       absurd (let no : true ≡ false = sym c.if-has_failed.true ∙ c.has_failed.ensures ∙ going in cc);
+  free = λ going none.
+      absurd (let no : true ≡ false = sym c.if-has_failed.true ∙ c.has_failed.ensures ∙ going in cc);
 }
 
 pub returns-clause-at_once : goal.returns-clause-at_once
@@ -124,4 +126,5 @@ returns-clause-at_once g c =
     let event = c.step_event in
     rw c.put_error.ensures (at_once_by g.T.Input.origin c.args.stepper.now event.new.stepper
     error.new.self event.ensures.moves.1 error.ensures.origin event.new.next event.ensures.waiting
-    event.ensures.ended error.result error.ensures.given error.ensures.place error.ensures.offset error.ensures.rest)
+    event.ensures.ended event.ensures.free error.result error.ensures.given error.ensures.place error.ensures.offset
+    error.ensures.rest)

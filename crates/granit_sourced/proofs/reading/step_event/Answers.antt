@@ -48,3 +48,7 @@ pub returns-clause-ended : goal.returns-clause-ended
 returns-clause-ended g c = λ at.
     let none = c.next_event.ensures.ended at in
     (viewed c.next_event.new.next ∙ ap next_view none.0, none.1)
+
+pub returns-clause-free : goal.returns-clause-free
+returns-clause-free g c = λ going none e fails.
+    viewed c.next_event.new.next ∙ ap next_view (c.next_event.ensures.at_once going none e fails)

@@ -7,7 +7,7 @@ use Rattle.granit_machine.specs.Lexing.{FlaggedItem}
 use Rattle.granit_restart.specs.Boundary.{next_boundary}
 use Rattle.granit_restart.specs.Restart.{start_found}
 use Rattle.granit_scanner.proofs.RestartLemmas.{begun_anew, no_start, same_anew, start_anew, start_is}
-use Rattle.granit_scanner.proofs.scanner.Scanner.restart_behind.Goals as goal
+use Rattle.granit_scanner.proofs.scanner.ItemScanner.restart_behind.Goals as goal
 use Rattle.granit_steps.specs.Steps.{unflagged}
 
 pub returns-in_ok-put_front-in-Start-clause-known : goal.returns-in_ok-put_front-in-Start-clause-known

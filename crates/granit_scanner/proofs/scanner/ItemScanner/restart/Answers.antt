@@ -5,7 +5,7 @@ use Rattle.granit_items.specs.ItemViews.{boxed_lexeme}
 use Rattle.granit_restart.specs.Restart.{read_boundary}
 use Rattle.granit_scanner.specs.Restarts.{Restarts, finds_start, front_items}
 use Rattle.granit_scanner.proofs.RestartLemmas.{goes_by, text_tells}
-use Rattle.granit_scanner.proofs.scanner.Scanner.restart.Goals as goal
+use Rattle.granit_scanner.proofs.scanner.ItemScanner.restart.Goals as goal
 use Rattle.granit_steps.specs.Steps.{StepState}
 
 pub returns-in-Some-clause-known : goal.returns-in-Some-clause-known

@@ -5,7 +5,7 @@ use Rattle.granit_reader.specs.Meets.{behind_met}
 use Rattle.granit_restart.specs.Header.{ends_in_directive}
 use Rattle.granit_scanner.specs.Scans.{Known, Scanning}
 use Rattle.granit_scanner.proofs.KnownLemmas.{known_last}
-use Rattle.granit_scanner.proofs.scanner.Scanner.ends_in_directive.Goals as goal
+use Rattle.granit_scanner.proofs.scanner.ItemScanner.ends_in_directive.Goals as goal
 
 pub returns-then-is_some : goal.returns-then-is_some
 returns-then-is_some g c = record {

@@ -3,7 +3,7 @@ use Rattle.std.specs.List.{slice_get}
 use Rattle.granit_queue.specs.QueueViews.{queued_view}
 use Rattle.granit_scanner.specs.Scans.{is_done}
 use Rattle.granit_scanner.proofs.FrontLemmas.{line_of_first}
-use Rattle.granit_scanner.proofs.scanner.Scanner.line_of_front.Goals as goal
+use Rattle.granit_scanner.proofs.scanner.ItemScanner.line_of_front.Goals as goal
 
 pub returns-in-Some : goal.returns-in-Some
 returns-in-Some g c =

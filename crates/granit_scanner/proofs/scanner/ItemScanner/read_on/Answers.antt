@@ -7,7 +7,7 @@ use Rattle.granit_scanner.specs.Scans.{Scanning, Known, ReadsOn, front_goes}
 use Rattle.granit_refused.specs.Answered.{answered}
 use Rattle.granit_scanner.proofs.KnownLemmas.{no_fault}
 use Rattle.granit_scanner.proofs.ReadingLemmas.{stands, read_taken}
-use Rattle.granit_scanner.proofs.scanner.Scanner.read_on.Goals as goal
+use Rattle.granit_scanner.proofs.scanner.ItemScanner.read_on.Goals as goal
 
 pub returns-clause-known : goal.returns-clause-known
 returns-clause-known g c = λ l q k none waits.

@@ -2,7 +2,7 @@ use Rattle.std.proofs.Common.{sym, subst}
 use Rattle.granit_error.specs.OptionsView.{options_of}
 use Rattle.granit_scanner.specs.Scans.{Known, KnownBy, Scanning}
 use Rattle.granit_scanner.proofs.KnownLemmas.{known_moved, moved_by}
-use Rattle.granit_scanner.proofs.scanner.Scanner.take_source_error.Goals as goal
+use Rattle.granit_scanner.proofs.scanner.ItemScanner.take_source_error.Goals as goal
 
 pub returns-clause-known : goal.returns-clause-known
 returns-clause-known g c = λ l q k.
